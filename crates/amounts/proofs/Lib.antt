@@ -1,0 +1,5 @@
+pub mod Whole
+pub mod Signs
+pub mod RoundTrip
+pub mod Reading
+pub mod One

@@ -1,0 +1,3 @@
+pub mod Rule
+pub mod Signs
+pub mod One

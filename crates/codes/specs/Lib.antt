@@ -1,0 +1,3 @@
+pub mod Annex
+pub mod Code
+pub mod Answers

@@ -1,0 +1,4 @@
+pub mod Order
+pub mod RoundTrip
+pub mod Reading
+pub mod One

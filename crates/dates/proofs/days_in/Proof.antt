@@ -1,0 +1,31 @@
+use mathlib.Core.Path.{sym}
+use lib.ListN.{List·getD-eq-default}
+use Rattle.dates.specs.Days.{daysIn, monthDays}
+use borrow.Author.Needs.{needs}
+use Rattle.dates.proofs.days_in.Statement.{statement}
+use Rattle.dates.proofs.days_in.Tie as tie
+
+is-leap-requires : tie.Need-is-leap-requires
+is-leap-requires c κs = search needs
+
+returns : tie.Need-returns
+unfolding daysIn
+returns c = rw (← c .before .is-leap .ensures, c .if1 .taken)
+
+returns-2 : tie.Need-returns-2
+unfolding daysIn
+returns-2 c = rw (← c .before .before .is-leap .ensures, c .before .if1 .left) (sym (List·getD-eq-default monthDays 0 (c .if2 .taken)))
+
+mul-result : tie.Need-mul-result
+mul-result c = search needs
+
+array-read-result : tie.Need-array-read-result
+array-read-result c = search needs
+
+returns-3 : tie.Need-returns-3
+unfolding daysIn
+returns-3 c = rw (← c .before .before .is-leap .ensures, c .before .if1 .left)
+
+pub days-in-spec : {M : Type 1} → statement M
+days-in-spec =
+    tie.close (tie.spec is-leap-requires returns returns-2 mul-result array-read-result returns-3)

@@ -1,0 +1,104 @@
+// Dates DDMMYY that must exist, as numbers YYYYMMDD: a later day has a larger number.
+ghost use mathlib.Core.Path.{_≡_};
+ghost use Prim.Native.Nat.{_<_, _≤_};
+ghost use lib.ListN.{length};
+ghost use Rattle.dates.specs.Days.{yearOf, isLeap, daysIn, exists as existsOf, dayOf, isDay, dateText};
+ghost use Rattle.dates.specs.Answers.{Read, Put};
+
+pub enum Date {
+    Day(u32),
+    NoDay,
+}
+
+fn year(yy: u64) -> u64
+    requires { ⌜ yy < 100 ⌝ }
+    ensures { λ r. ⌜ (r ≡ yearOf yy) × (r ≤ 2079) ⌝ }
+{
+    if yy < 80 {
+        return 2000 + yy;
+    }
+    1900 + yy
+}
+
+fn is_leap(y: u64) -> bool
+    ensures { λ r. ⌜ r ≡ isLeap y ⌝ }
+{
+    (y % 4 == 0) & ((y % 100 != 0) | (y % 400 == 0))
+}
+
+fn days_in(y: u64, m: u64) -> u64
+    ensures { λ r. ⌜ r ≡ daysIn y m ⌝ }
+{
+    if (m == 2) & is_leap(y) {
+        return 29;
+    }
+    if m >= 13 {
+        return 0;
+    }
+    let days: [u64; 13] = [0, 31, 28, 31, 30, 31, 30, 31, 31, 30, 31, 30, 31];
+    days[m as usize]
+}
+
+fn exists(y: u64, m: u64, d: u64) -> bool
+    ensures { λ r. ⌜ r ≡ existsOf y m d ⌝ }
+{
+    let last = days_in(y, m);
+    (1 <= d) & (d <= last)
+}
+
+fn day_of(y: u64, m: u64, d: u64) -> Date
+    requires { ⌜ (y ≤ 2079) × (m < 100) × (d < 100) ⌝ }
+    ensures { λ r. ⌜ r ≡ dayOf y m d ⌝ }
+{
+    if exists(y, m, d) {
+        return Date::Day((y * 10000 + m * 100 + d) as u32);
+    }
+    Date::NoDay
+}
+
+// The date in six digits. Other lengths, other bytes and days that do not exist are none.
+pub fn read(s: &[u8]) -> Date
+    ensures { λ r. ⌜ Read (now (s .entry)) r ⌝ }
+{
+    if s.len() != 6 {
+        return Date::NoDay;
+    }
+    if !zones::digits(s) {
+        return Date::NoDay;
+    }
+    let d = zones::number(&s[0..2]);
+    let m = zones::number(&s[2..4]);
+    let yy = zones::number(&s[4..6]);
+    day_of(year(yy), m, d)
+}
+
+fn is_day(k: u64) -> bool
+    ensures { λ r. ⌜ r ≡ isDay k ⌝ }
+{
+    let y = k / 10000;
+    let real = exists(y, k / 100 % 100, k % 100);
+    ((1980 <= y) & (y <= 2079)) & real
+}
+
+fn put_digits(out: &mut [u8], k: u64)
+    requires { ⌜ length (now out) ≡ 6 ⌝ }
+    ensures { λ _. ⌜ now (out .exit) ≡ dateText k ⌝ }
+{
+    zones::put_number(&mut out[0..2], k % 100);
+    zones::put_number(&mut out[2..4], k / 100 % 100);
+    zones::put_number(&mut out[4..6], k / 10000 % 100);
+}
+
+// The six bytes of a day's number, and whether they were written. A number of no day, or a part of another length, is refused and nothing changes.
+pub fn put(out: &mut [u8], k: u32) -> bool
+    ensures { λ r. ⌜ Put k (now (out .entry)) r (now (out .exit)) ⌝ }
+{
+    if out.len() != 6 {
+        return false;
+    }
+    if !is_day(k as u64) {
+        return false;
+    }
+    put_digits(out, k as u64);
+    true
+}
