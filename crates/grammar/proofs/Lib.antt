@@ -1,0 +1,15 @@
+pub mod Tests
+pub mod Firsts
+pub mod Runs
+pub mod Quiet
+pub mod Rows
+pub mod Sound
+pub mod Full
+pub mod Since
+pub mod Seam
+pub mod After
+pub mod Exact
+pub mod Refusal
+pub mod Demand
+pub mod Trips
+pub mod Parts

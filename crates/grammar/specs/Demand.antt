@@ -1,0 +1,12 @@
+-- Demand 2 on a check: a file is accepted exactly if some list of statements, laid out by the rules, gives those bytes; the counts are that list's.
+use mathlib.Core.Path.{_≡_}
+use mathlib.Core.List.{List}
+use Prim.Native.Nat.{ℕ}
+use Rattle.framing.specs.declared.Form.{Form}
+use Rattle.grammar.specs.Answer.{Counts, Answer, accepted}
+use Rattle.grammar.specs.Statements.{Statement, countsOf}
+use Rattle.grammar.specs.Files.{Coding, Reads}
+
+pub record Demand2 (C : Coding) (check : Form → List ℕ → Answer) : Type 0 where
+  pub accepts : (f : Form) (b : List ℕ) (ss : List Statement) → Reads C f b ss → check f b ≡ accepted (countsOf ss)
+  pub only : (f : Form) (b : List ℕ) (c : Counts) → check f b ≡ accepted c → (ss : List Statement) × Reads C f b ss

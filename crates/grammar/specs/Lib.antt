@@ -1,0 +1,9 @@
+pub mod Answer
+pub mod Record
+pub mod Machine
+pub mod Rules
+pub mod Since
+pub mod Statements
+pub mod Files
+pub mod Demand
+pub mod Parts

@@ -1,0 +1,2 @@
+pub mod PerKind
+pub mod PerLayout

@@ -1,0 +1,1 @@
+// Layouts of records in the paper's positions: definitions and laws, no code.

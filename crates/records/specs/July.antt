@@ -1,0 +1,189 @@
+-- The records of July 2004: what their bytes hold, how values are written, and the rules 6, 8 and 9.
+use mathlib.Core.Path.{_≡_}
+use mathlib.Core.Bool.{Bool, true, not, _||_}
+use mathlib.Core.List.{List, _++_}
+use Prim.Native.Nat.{ℕ}
+use Prim.Native.String.{String}
+use lib.ListN.{length, take, getD, replicate}
+use lib.IntN.{ℤ}
+use Rattle.zones.specs.Choice.{pick}
+use Rattle.zones.specs.Copy.{sameBytes}
+use Rattle.zones.specs.Number.{valueOf}
+use Rattle.zones.specs.Text.{bytes}
+use Rattle.amounts.specs.Amounts.{amountOf}
+use Rattle.dates.specs.Days.{dateOf}
+use Rattle.layouts.specs.Zone.{part, Zone, dayIn, valueIn, zoned, dated, run, Values, encode, holdsAll}
+use Rattle.grammar.specs.declared.Key.{Key}
+use Rattle.grammar.specs.Record.{Posting, Rec, opening, movement, complement, closing, Edition}
+use Rattle.grammar.specs.Files.{Coding}
+use Rattle.records.specs.Layouts.{balance, layout01, layout04, layout05, layoutMmo, layout07}
+
+-- Limits (H): 20,000 records in a file, 9,999 in a statement.
+abbrev pub mostInFile : ℕ
+mostInFile = 20000
+
+abbrev pub mostInStatement : ℕ
+mostInStatement = 9999
+
+-- a file is a row of records of 120 bytes
+abbrev pub recordSize : ℕ
+recordSize = 120
+
+-- the record code
+abbrev pub isCode : String → List ℕ → Bool
+isCode code b = sameBytes (bytes code) (part 1 2 b)
+
+-- 6: unknown record code
+unfoldable pub unknownCode : List ℕ → Bool
+unknownCode b = not (isCode "01" b || (isCode "04" b || (isCode "05" b || isCode "07" b)))
+
+-- a text is 46-118 of its 05: qualifier and information
+unfoldable pub isMmo : List ℕ → Bool
+isMmo t = sameBytes (bytes "MMO") (take 3 t)
+
+-- the layout by which a record is judged; that of a 07 where the code is none of the others
+abbrev pub layout05Of : List ℕ → List Zone
+layout05Of t = pick (isMmo t) layoutMmo layout05
+
+unfoldable pub layoutOf : List ℕ → List Zone
+layoutOf b =
+    pick (isCode "01" b) layout01
+    (pick (isCode "04" b) layout04
+    (pick (isCode "05" b) (layout05Of (part 46 118 b)) layout07))
+
+-- 8: zone against its table line, or amount not as said
+unfoldable pub misfit : List ℕ → Bool
+misfit b = not (run zoned (layoutOf b) b)
+
+-- 9: date that does not exist
+unfoldable pub undated : List ℕ → Bool
+undated b = not (run dated (layoutOf b) b)
+
+-- what stands in a record, for any bytes
+abbrev pub keyIn : List ℕ → Key
+keyIn b =
+    record {
+      bank = part 3 7 b;
+      branch = part 12 16 b;
+      currency = part 17 19 b;
+      decimals = getD (part 20 20 b) 0 0;
+      account = part 22 32 b;
+    }
+
+abbrev pub dateIn : List ℕ → ℕ
+dateIn b = dayIn (dateOf (part 35 40 b))
+
+abbrev pub amountIn : List ℕ → ℤ
+amountIn b = valueIn (amountOf (part 91 104 b))
+
+abbrev pub postingIn : List ℕ → Posting
+postingIn b =
+    record {
+      internal = part 8 11 b;
+      code = part 33 34 b;
+      booked = dateIn b;
+      reject = part 41 42 b;
+      value = dayIn (dateOf (part 43 48 b));
+      label = part 49 79 b;
+      entry = valueOf (part 82 88 b);
+      exempt = getD (part 89 89 b) 0 0;
+      unavailable = getD (part 90 90 b) 0 0;
+      amount = amountIn b;
+      reference = part 105 120 b;
+    }
+
+unfoldable pub decodeRecord : List ℕ → Rec
+decodeRecord b =
+    pick (isCode "01" b) (opening (keyIn b) (dateIn b) (amountIn b))
+    (pick (isCode "04" b) (movement (keyIn b) (postingIn b))
+    (pick (isCode "05" b) (complement (part 3 40 b) (part 46 118 b)) (closing (keyIn b) (dateIn b) (amountIn b))))
+
+-- the values of a record in the order of its zones
+abbrev pub balanceValues : (code : String) → Key → ℕ → ℤ → Values (balance code)
+balanceValues code k d a =
+    (tt, (k .bank, (tt, (k .branch, (k .currency, (k .decimals, (tt, (k .account, (tt, (d, (tt, (a, (tt, tt)))))))))))))
+
+abbrev pub movementValues : Key → Posting → Values layout04
+movementValues k p = (
+  tt,
+  (
+    k .bank,
+    (
+      p .internal,
+      (
+        k .branch,
+        (
+          k .currency,
+          (
+            k .decimals,
+            (
+              tt,
+              (
+                k .account,
+                (
+                  p .code,
+                  (
+                    p .booked,
+                    (
+                      p .reject,
+                      (p .value, (p .label, (tt, (p .entry, (p .exempt, (p .unavailable, (p .amount, (p .reference, tt)))))))),
+                    ),
+                  ),
+                ),
+              ),
+            ),
+          ),
+        ),
+      ),
+    ),
+  ),
+)
+
+unfoldable pub writeBalance : (code : String) → Key → ℕ → ℤ → List ℕ
+writeBalance code k d a = encode (balance code) (balanceValues code k d a)
+
+unfoldable pub writeMovement : Key → Posting → List ℕ
+writeMovement k p = encode layout04 (movementValues k p)
+
+unfoldable pub writeComplement : (repeated text : List ℕ) → List ℕ
+writeComplement e t = bytes "05" ++ (e ++ (replicate 5 32 ++ (t ++ replicate 2 32)))
+
+abbrev pub encodeRecord : Rec → List ℕ
+encodeRecord (opening k d a) = writeBalance "01" k d a
+encodeRecord (movement k p) = writeMovement k p
+encodeRecord (complement e t) = writeComplement e t
+encodeRecord (closing k d a) = writeBalance "07" k d a
+
+-- A 05 equals its 04 in positions 3-40.
+unfoldable pub repeats : Key → Posting → List ℕ
+repeats k p = part 3 40 (writeMovement k p)
+
+-- what a 05 can hold: its record has the zones and the date of its layout
+pub record HoldsComplement (e t : List ℕ) : Type 0 where
+  pub repeated : length e ≡ 38
+  pub text : length t ≡ 73
+  pub zones : run zoned (layout05Of t) (writeComplement e t) ≡ true
+  pub dates : run dated (layout05Of t) (writeComplement e t) ≡ true
+
+-- the values that a record can hold
+abbrev pub Holds : Rec → Type 0
+Holds (opening k d a) = holdsAll layout01 (balanceValues "01" k d a) ≡ true
+Holds (movement k p) = holdsAll layout04 (movementValues k p) ≡ true
+Holds (complement e t) = HoldsComplement e t
+Holds (closing k d a) = holdsAll layout07 (balanceValues "07" k d a) ≡ true
+
+abbrev pub july2004 : Edition
+july2004 = record { repeats = repeats; isMmo = isMmo; mostInStatement = mostInStatement; mostInFile = mostInFile }
+
+abbrev pub july : Coding
+july =
+    record {
+      size = recordSize;
+      edition = july2004;
+      decode = decodeRecord;
+      encode = encodeRecord;
+      Ok = Holds;
+      unknownCode = unknownCode;
+      misfit = misfit;
+      undated = undated;
+    }

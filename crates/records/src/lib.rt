@@ -1,0 +1,1 @@
+// The records of a statement: definitions and laws, no code yet.
