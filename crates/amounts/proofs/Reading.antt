@@ -2,18 +2,17 @@
 use mathlib.Core.Path.{_≡_, sym, _∙_}
 use mathlib.Core.Bool.{Bool, true, false, _&&_, not, and-false}
 use mathlib.Core.List.{List}
-use Prim.Native.Nat.{ℕ, _+_, _*_, _%_, _<_}
+use Prim.Native.Nat.{ℕ, _+_, _*_, _%_}
 use native.Mathlib.Omega.{arith}
 use lib.Dec.{leb, ltb, eqb}
 use lib.ListN.{length, take, getD}
 use lib.Seq.{length-take-le}
 use borrow.Author.Tests.{ne-eqb, eq-eqb}
 use Rattle.zones.specs.Choice.{pick}
-use Rattle.zones.specs.Class.{digit, all}
+use Rattle.zones.specs.Class.{digit}
 use Rattle.zones.specs.Answers.{Tested, Number}
 use Rattle.zones.proofs.Called.{number-value}
 use Rattle.amounts.specs.Amounts.{signIndex, signOf, isDebit, magnitude, signedOf, amountOf}
-use Rattle.amounts.specs.declared.Amount.{Amount}
 use Rattle.amounts.specs.declared.Amount.the-variants.{Value, NoAmount}
 
 module _ (s : List ℕ) where

@@ -1,26 +1,24 @@
 -- What is written reads back, and what was read is written as it stood.
 use mathlib.Core.Path.{_≡_, refl, ap, sym, _∙_}
-use mathlib.Core.Bool.{Bool, true, false, _&&_, not, and-false, false≢true}
+use mathlib.Core.Bool.{Bool, true, false, _&&_, not, false≢true}
 use mathlib.Core.List.{List, [], _∷_, _++_}
 use Prim.Native.Nat.{ℕ, zero, suc, _+_, _*_, _/_, _%_, _<_, _≤_}
-use native.Mathlib.Nat.{not-suc-le-zero}
 use native.Mathlib.Omega.{arith}
-use lib.Dec.{leb, ltb, eqb}
-use lib.ListN.{length, take, drop, getD, length-append}
+use lib.Dec.{ltb, eqb}
+use lib.ListN.{length, take, getD, length-append}
 use lib.Seq.{getD-at, take-at, take-suc, take-all, length-take-le}
 use lib.IntN.{ℤ, pos, negsuc, natAbs}
-use borrow.Author.Tests.{leb-true, le-leb, lt-ltb, ltb-true, eq-eqb, ne-eqb, eqb-true, not-true}
+use borrow.Author.Tests.{leb-true, le-leb, lt-ltb, ltb-true, ne-eqb, eqb-true}
 use Rattle.zones.specs.Choice.{pick}
 use Rattle.zones.specs.Class.{digit, permitted, inClass, every, all}
 use Rattle.zones.specs.Number.{valueOf, digitsOf}
-use Rattle.zones.proofs.Bools.{and-left, and-right, both, and-one}
+use Rattle.zones.proofs.Bools.{and-left, and-right, both}
 use Rattle.zones.proofs.Every.{every-append, class-permitted}
 use Rattle.zones.proofs.Decimal.{value-digits, digits-value, digits-all, length-digits, value-below}
 use Rattle.amounts.specs.Amounts.{signOf, isDebit, magnitude, signedOf, isAmount, amountOf, mostAmount, hasAmount, isNegative, signByte, signedText, amountText}
-use Rattle.amounts.specs.declared.Amount.{Amount}
 use Rattle.amounts.specs.declared.Amount.the-variants.{Value, NoAmount}
 use Rattle.amounts.proofs.Whole.{natAbs-signed}
-use Rattle.amounts.proofs.Signs.{Signed, sign-byte, byte-sign, sign-permitted}
+use Rattle.amounts.proofs.Signs.{sign-byte, byte-sign, sign-permitted}
 
 length-signed : (d : Bool) (m : ℕ) → length (signedText d m) ≡ 14
 unfolding signedText

@@ -1,8 +1,8 @@
 -- The order of the numbers is the order of the days.
 use mathlib.Core.Path.{_≡_}
-use mathlib.Core.Logic.{_↔_, _⊎_, ⊎-elim, inl, inr}
-use Prim.Native.Nat.{ℕ, _+_, _*_, _<_}
-use native.Mathlib.Decide.{decLt, ℕ-discrete}
+use mathlib.Core.Logic.{_↔_, ⊎-elim, inl, inr}
+use Prim.Native.Nat.{ℕ, _<_}
+use native.Mathlib.Decide.{decLt}
 use native.Mathlib.Omega.{arith}
 use Rattle.dates.specs.Days.{dayNumber, Before}
 

@@ -11,8 +11,7 @@ use Rattle.zones.specs.Class.{digit, all}
 use Rattle.zones.specs.Answers.{Tested, Number}
 use Rattle.zones.proofs.Called.{number-value, number-below}
 use Rattle.dates.specs.Days.{yearOf, dayOf, dateOf}
-use Rattle.dates.specs.declared.Date.{Date}
-use Rattle.dates.specs.declared.Date.the-variants.{Day, NoDay}
+use Rattle.dates.specs.declared.Date.the-variants.{NoDay}
 use Rattle.dates.proofs.RoundTrip.{pair, pair-digits}
 
 module _ (s : List ℕ) where

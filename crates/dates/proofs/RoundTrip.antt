@@ -1,8 +1,8 @@
 -- What was read is written as it stood, and what is written reads back.
-use mathlib.Core.Path.{_≡_, refl, ap, sym, _∙_}
+use mathlib.Core.Path.{_≡_, refl, sym, _∙_}
 use mathlib.Core.Bool.{Bool, true, false, _&&_}
-use mathlib.Core.List.{List, [], _∷_, _++_}
-use Prim.Native.Nat.{ℕ, _+_, _*_, _/_, _%_, _^_, _<_, _≤_}
+use mathlib.Core.List.{List, _++_}
+use Prim.Native.Nat.{ℕ, _+_, _*_, _/_, _%_, _<_, _≤_}
 use native.Mathlib.Omega.{arith}
 use lib.Arith.{digits-mod}
 use lib.Dec.{leb, ltb, eqb}
@@ -15,7 +15,7 @@ use Rattle.zones.specs.Number.{valueOf, digitsOf}
 use Rattle.zones.proofs.Bools.{and-left, and-right, both}
 use Rattle.zones.proofs.Every.{every-append, every-take, every-drop}
 use Rattle.zones.proofs.Decimal.{value-below, digits-value, digits-all, length-digits, value-digits}
-use Rattle.dates.specs.Days.{yearOf, daysIn, exists, dayNumber, dayOf, dateOf, isDay, dateText}
+use Rattle.dates.specs.Days.{yearOf, exists, dayNumber, dayOf, dateOf, isDay, dateText}
 use Rattle.dates.specs.declared.Date.{Date}
 use Rattle.dates.specs.declared.Date.the-variants.{Day, NoDay}
 

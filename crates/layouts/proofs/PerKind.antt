@@ -1,23 +1,21 @@
 -- One law per kind and direction: bytes to a value and back, a value to bytes and back.
 use mathlib.Core.Path.{_≡_, refl, ap, sym, _∙_}
-use mathlib.Core.Bool.{Bool, true, false, _&&_, _||_, false≢true}
+use mathlib.Core.Bool.{Bool, true, false, false≢true}
 use mathlib.Core.List.{List, [], _∷_}
-use Prim.Native.Nat.{ℕ, suc, _+_, _^_, _<_}
+use Prim.Native.Nat.{ℕ, _^_}
 use native.Mathlib.Omega.{arith}
-use lib.Dec.{eqb, ltb}
-use lib.ListN.{length, getD, replicate, length-replicate}
+use lib.Dec.{eqb}
+use lib.ListN.{length, getD, length-replicate}
 use lib.IntN.{ℤ}
 use borrow.Author.Tests.{eqb-true, eq-eqb, ltb-true, lt-ltb}
 use Rattle.zones.specs.Choice.{pick}
 use Rattle.zones.specs.Class.{Class, digit, blank, permitted, inClass, every, all}
-use Rattle.zones.specs.Copy.{sameBytes}
 use Rattle.zones.specs.Number.{valueOf}
-use Rattle.zones.proofs.Bools.{and-left, and-right, both, and-one, either as by-either}
+use Rattle.zones.proofs.Bools.{and-left, and-right, both, either as by-either}
 use Rattle.zones.proofs.Every.{class-permitted, blanks-are, are-blanks}
 use Rattle.zones.proofs.Copies.{same-equal, equal-same}
 use Rattle.zones.proofs.Decimal.{value-digits, digits-value, length-digits, digits-all, value-below}
 use Rattle.amounts.specs.Amounts.{isAmount, amountOf, signedOf, isDebit, magnitude}
-use Rattle.amounts.specs.declared.Amount.{Amount}
 use Rattle.amounts.specs.declared.Amount.the-variants.{Value, NoAmount}
 use Rattle.amounts.proofs.RoundTrip as amounts
 use Rattle.dates.specs.Days.{dateOf}

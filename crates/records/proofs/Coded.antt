@@ -1,11 +1,10 @@
 -- A record's code decides its layout and its values.
 use mathlib.Core.Path.{_≡_, refl, sym, _∙_}
-use mathlib.Core.Bool.{Bool, true, false, not, _||_, false≢true}
+use mathlib.Core.Bool.{Bool, true, false, _||_, false≢true}
 use mathlib.Core.List.{List}
 use Prim.Native.Nat.{ℕ}
 use Prim.Native.String.{String}
 use borrow.Author.Tests.{not-false}
-use Rattle.zones.specs.Choice.{pick}
 use Rattle.zones.specs.Copy.{sameBytes}
 use Rattle.zones.specs.Text.{bytes}
 use Rattle.zones.proofs.Copies.{same-equal, equal-same}

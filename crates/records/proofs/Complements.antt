@@ -1,16 +1,16 @@
 -- 05: its bytes are its code, what it repeats, five blanks, its text and two blanks.
-use mathlib.Core.Path.{_≡_, refl, sym, ap, ap₂, _∙_}
-use mathlib.Core.Bool.{Bool, true, false, _&&_}
-use mathlib.Core.List.{List, [], _∷_, _++_}
-use Prim.Native.Nat.{ℕ, _+_, _≤_}
+use mathlib.Core.Path.{_≡_, refl, sym, ap, _∙_}
+use mathlib.Core.Bool.{Bool, true, false}
+use mathlib.Core.List.{List, _++_}
+use Prim.Native.Nat.{ℕ}
 use native.Mathlib.Omega.{arith}
-use lib.ListN.{length, take, drop, replicate, length-append, length-drop, length-replicate, take-append-drop}
+use lib.ListN.{length, take, drop, replicate, length-append, length-drop, take-append-drop}
 use lib.Seq.{length-take-le, take-all, take-at, drop-at, drop-drop, take-take}
 use Rattle.zones.specs.Choice.{pick}
 use Rattle.zones.specs.Class.{permitted, blank, all}
 use Rattle.zones.specs.Copy.{sameBytes}
 use Rattle.zones.specs.Text.{bytes}
-use Rattle.zones.proofs.Bools.{and-left, and-right, both}
+use Rattle.zones.proofs.Bools.{both}
 use Rattle.zones.proofs.Every.{blanks-are}
 use Rattle.zones.proofs.Copies.{same-equal, equal-same}
 use Rattle.layouts.specs.Zone as Z

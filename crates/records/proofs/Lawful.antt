@@ -1,5 +1,5 @@
 -- The records of July 2004 are a lawful coding.
-use mathlib.Core.Path.{_≡_, refl, sym, ap, _∙_}
+use mathlib.Core.Path.{_≡_, ap, _∙_}
 use mathlib.Core.Bool.{true}
 use mathlib.Core.List.{List}
 use Prim.Native.Nat.{ℕ}
@@ -8,19 +8,18 @@ use lib.ListN.{length, drop, length-drop}
 use lib.Seq.{length-take-le}
 use lib.IntN.{ℤ}
 use Rattle.zones.specs.Text.{bytes}
-use Rattle.zones.proofs.Bools.{and-right}
 use Rattle.zones.proofs.Copies.{equal-same}
-use Rattle.layouts.specs.Zone.{part, Zone, Values, decode, encode, holdsAll}
+use Rattle.layouts.specs.Zone.{part, Values, encode}
 use Rattle.layouts.proofs.PerLayout.{Fits, encode-decode, holds-decode, decode-encode}
 use Rattle.grammar.specs.declared.Key.{Key}
 use Rattle.grammar.specs.Record.{Posting, Rec, opening, movement, complement, closing}
 use Rattle.grammar.specs.Files.{Fine, Lawful}
 use Rattle.records.specs.Layouts.{layout01, layout04, layout07}
-use Rattle.records.specs.July.{recordSize, isCode, layout05Of, keyIn, dateIn, amountIn, postingIn, decodeRecord, balanceValues, movementValues, writeBalance, writeMovement, writeComplement, encodeRecord, HoldsComplement, Holds, july}
+use Rattle.records.specs.July.{recordSize, isCode, layout05Of, decodeRecord, balanceValues, movementValues, writeBalance, writeMovement, writeComplement, encodeRecord, HoldsComplement, Holds, july}
 use Rattle.records.proofs.Covered.{covers01, covers04, covers07}
 use Rattle.records.proofs.Coded.{As, as01, as04, as05, as07, Coded, is01, is04, is05, is07, coded}
 use Rattle.records.proofs.Valued.{Judged, judged, fine, written-length, written-judged, written-marks, written-permitted}
-use Rattle.records.proofs.Complements.{complement-again, Placed, placed, complement-permitted}
+use Rattle.records.proofs.Complements.{complement-again, placed, complement-permitted}
 
 -- BYTES TO VALUES
 fits01 : (b : List ℕ) → isCode "01" b ≡ true → Judged layout01 b → Fits layout01 b

@@ -1,14 +1,13 @@
 -- 01, 04 and 07: their bytes are the values of their zones.
-use mathlib.Core.Path.{_≡_, refl, sym, ap, _∙_}
-use mathlib.Core.Bool.{true, false, not}
+use mathlib.Core.Path.{_≡_, ap}
+use mathlib.Core.Bool.{true, not}
 use mathlib.Core.List.{List}
 use Prim.Native.Nat.{ℕ}
 use lib.ListN.{length}
 use borrow.Author.Tests.{not-false}
 use Rattle.zones.specs.Class.{permitted, all}
-use Rattle.framing.specs.Files.{unpermitted}
-use Rattle.layouts.specs.Zone.{Zone, marked, zoned, dated, run, Values, decode, encode, holdsAll, covers}
-use Rattle.layouts.proofs.PerLayout.{Fits, encode-decode, holds-decode, fits-encode, fits-permitted, length-encode}
+use Rattle.layouts.specs.Zone.{Zone, marked, zoned, dated, run, Values, encode, holdsAll, covers}
+use Rattle.layouts.proofs.PerLayout.{fits-encode, fits-permitted, length-encode}
 use Rattle.grammar.specs.Record.{Rec}
 use Rattle.grammar.specs.Files.{Fine}
 use Rattle.records.specs.July.{recordSize, layoutOf, misfit, undated, july}

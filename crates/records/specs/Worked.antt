@@ -3,8 +3,7 @@ use Prim.Native.Nat.{ℕ}
 use Prim.Native.String.{String}
 use mathlib.Core.List.{List, [], _∷_, _++_}
 use Rattle.zones.specs.Text.{bytes}
-use Rattle.framing.specs.declared.Form.{Form}
-use Rattle.grammar.specs.Answer.{Counts, Answer, accepted, refused}
+use Rattle.grammar.specs.Answer.{Answer, accepted, refused}
 use Rattle.grammar.specs.Files.{checkOf}
 use Rattle.records.specs.July.{july}
 

@@ -1,13 +1,13 @@
 -- What a call answered or left, where the width is known: the laws that callers cite.
-use mathlib.Core.Path.{_≡_, ap, sym, _∙_}
-use mathlib.Core.Bool.{Bool, true}
+use mathlib.Core.Path.{_≡_, ap, _∙_}
+use mathlib.Core.Bool.{true}
 use mathlib.Core.List.{List}
 use Prim.Native.Nat.{ℕ, _^_, _<_, _≤_}
 use lib.ListN.{length}
 use borrow.Author.Tests.{le-leb}
 use Rattle.zones.specs.Class.{digit, all}
 use Rattle.zones.specs.Number.{valueOf, mostDigits, numberOf, digitsOf}
-use Rattle.zones.specs.Answers.{Tested, Put, Number, PutNumber}
+use Rattle.zones.specs.Answers.{Put, Number, PutNumber}
 use Rattle.zones.proofs.Copies.{copied-whole}
 use Rattle.zones.proofs.Decimal.{value-below}
 

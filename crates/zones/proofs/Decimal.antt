@@ -1,15 +1,15 @@
 -- Digits to a number and back, a number to digits and back, over the width.
 use mathlib.Core.Path.{_≡_, refl, ap, sym, _∙_}
-use mathlib.Core.Bool.{Bool, true, _&&_}
+use mathlib.Core.Bool.{true}
 use mathlib.Core.List.{List, [], _∷_, _++_, append-nil}
 use Prim.Native.Nat.{ℕ, zero, suc, _+_, _-_, _*_, _/_, _%_, _^_, _<_, _≤_}
 use native.Mathlib.Nat.{pow-suc, pow-le-pow-right, not-suc-le-zero, le-of-suc-le-suc, add-zero, zero-add, mul-le-mul-right, mul-comm, mul-assoc, lt-of-lt-of-le}
 use native.Mathlib.Numerals.{add-one, sub-one}
 use native.Mathlib.Omega.{arith}
 use lib.Dec.{lit<}
-use lib.ListN.{length, take, drop, getD, set}
+use lib.ListN.{length, drop, getD, set}
 use lib.Seq.{drop-cons}
-use Rattle.zones.specs.Class.{digit, between, inClass, every, all}
+use Rattle.zones.specs.Class.{digit, between, every, all}
 use Rattle.zones.specs.Number.{valueFrom, valueOf, mostDigits, digitsInto, digitsOf}
 use Rattle.zones.proofs.Bools.{and-left, and-right, both}
 use Rattle.zones.proofs.Every.{in-range, range-in}
