@@ -1,1 +1,3 @@
 pub mod Cuts
+pub mod Framing
+pub mod One

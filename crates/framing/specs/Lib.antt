@@ -1,1 +1,3 @@
 pub mod Files
+pub mod Frames
+pub mod Answers

@@ -36,10 +36,10 @@ unfolding writeBalance writeMovement
 again b l f = by (coded b (f .known))
   where
     by : Coded b → encodeRecord (decodeRecord b) ≡ b
-    by (is01 h a) = ap encodeRecord (a .values) ∙ encode-decode recordSize layout01 b covers01 l (fits01 b h (judged a f))
-    by (is04 h a) = ap encodeRecord (a .values) ∙ encode-decode recordSize layout04 b covers04 l (fits04 b h (judged a f))
-    by (is05 h a) = ap encodeRecord (a .values) ∙ complement-again b l h (judged a f)
-    by (is07 h a) = ap encodeRecord (a .values) ∙ encode-decode recordSize layout07 b covers07 l (fits07 b h (judged a f))
+    by (is01 h a) = ap encodeRecord (a .values) ∙ encode-decode recordSize layout01 b covers01 l (fits01 b h (judged l a f))
+    by (is04 h a) = ap encodeRecord (a .values) ∙ encode-decode recordSize layout04 b covers04 l (fits04 b h (judged l a f))
+    by (is05 h a) = ap encodeRecord (a .values) ∙ complement-again b l h (judged l a f)
+    by (is07 h a) = ap encodeRecord (a .values) ∙ encode-decode recordSize layout07 b covers07 l (fits07 b h (judged l a f))
 
 complement-ok : (b : List ℕ) → length b ≡ recordSize → isCode "05" b ≡ true → Judged (layout05Of (part 46 118 b)) b → HoldsComplement (part 3 40 b) (part 46 118 b)
 complement-ok b l h j =
@@ -55,10 +55,10 @@ ok : (b : List ℕ) → length b ≡ recordSize → Fine july b → Holds (decod
 ok b l f = by (coded b (f .known))
   where
     by : Coded b → Holds (decodeRecord b)
-    by (is01 h a) = rw (a .values) (holds-decode recordSize layout01 b covers01 l (fits01 b h (judged a f)))
-    by (is04 h a) = rw (a .values) (holds-decode recordSize layout04 b covers04 l (fits04 b h (judged a f)))
-    by (is05 h a) = rw (a .values) (complement-ok b l h (judged a f))
-    by (is07 h a) = rw (a .values) (holds-decode recordSize layout07 b covers07 l (fits07 b h (judged a f)))
+    by (is01 h a) = rw (a .values) (holds-decode recordSize layout01 b covers01 l (fits01 b h (judged l a f)))
+    by (is04 h a) = rw (a .values) (holds-decode recordSize layout04 b covers04 l (fits04 b h (judged l a f)))
+    by (is05 h a) = rw (a .values) (complement-ok b l h (judged l a f))
+    by (is07 h a) = rw (a .values) (holds-decode recordSize layout07 b covers07 l (fits07 b h (judged l a f)))
 
 -- VALUES TO BYTES
 balanceIn : (Key → ℕ → ℤ → Rec) → Values layout01 → Rec
@@ -126,15 +126,15 @@ written-fine : (r : Rec) → Holds r → Fine july (encodeRecord r)
 unfolding writeBalance writeMovement
 written-fine (opening k d a) h =
     let v = balanceValues "01" k d a in
-    fine (as-opening k d a h) (written-judged layout01 covers01 v h) (written-permitted layout01 covers01 v h)
+    fine (wide (opening k d a) h) (as-opening k d a h) (written-judged layout01 covers01 v h) (written-permitted layout01 covers01 v h)
 written-fine (movement k p) h =
     let v = movementValues k p in
-    fine (as-movement k p h) (written-judged layout04 covers04 v h) (written-permitted layout04 covers04 v h)
+    fine (wide (movement k p) h) (as-movement k p h) (written-judged layout04 covers04 v h) (written-permitted layout04 covers04 v h)
 written-fine (complement e t) h =
-    fine (as-complement e t h) (record { zones = h .zones; dates = h .dates }) (complement-permitted e t h)
+    fine (wide (complement e t) h) (as-complement e t h) (record { zones = h .zones; dates = h .dates }) (complement-permitted e t h)
 written-fine (closing k d a) h =
     let v = balanceValues "07" k d a in
-    fine (as-closing k d a h) (written-judged layout07 covers07 v h) (written-permitted layout07 covers07 v h)
+    fine (wide (closing k d a) h) (as-closing k d a h) (written-judged layout07 covers07 v h) (written-permitted layout07 covers07 v h)
 
 same : (r : Rec) → Holds r → decodeRecord (encodeRecord r) ≡ r
 same (opening k d a) h = as-opening k d a h .values

@@ -3,14 +3,16 @@ use mathlib.Core.Path.{_≡_, ap}
 use mathlib.Core.Bool.{true, not}
 use mathlib.Core.List.{List}
 use Prim.Native.Nat.{ℕ}
+use lib.Dec.{eqb}
 use lib.ListN.{length}
-use borrow.Author.Tests.{not-false}
+use borrow.Author.Tests.{not-false, eq-eqb}
+use Rattle.zones.proofs.Bools.{and-right, both}
 use Rattle.zones.specs.Class.{permitted, all}
 use Rattle.layouts.specs.Zone.{Zone, marked, zoned, dated, run, Values, encode, holdsAll, covers}
 use Rattle.layouts.proofs.PerLayout.{fits-encode, fits-permitted, length-encode}
 use Rattle.grammar.specs.Record.{Rec}
 use Rattle.grammar.specs.Files.{Fine}
-use Rattle.records.specs.July.{recordSize, layoutOf, misfit, undated, july}
+use Rattle.records.specs.July.{recordSize, layoutOf, fits, misfit, undated, july}
 use Rattle.records.proofs.Coded.{As}
 
 -- the zones and dates of a record to which no rule applies
@@ -18,23 +20,23 @@ pub record Judged (zs : List Zone) (b : List ℕ) : Type 0 where
   pub zones : run zoned zs b ≡ true
   pub dates : run dated zs b ≡ true
 
-pub judged : {zs : List Zone} {b : List ℕ} {r : Rec} → As b zs r → Fine july b → Judged zs b
+pub judged : {zs : List Zone} {b : List ℕ} {r : Rec} → length b ≡ recordSize → As b zs r → Fine july b → Judged zs b
 unfolding misfit undated
-judged {zs} {b} a f =
+judged {zs} {b} l a f =
     record {
-      zones = rw (a .layout) at (not-false (run zoned (layoutOf b) b) (f .fits));
-      dates = rw (a .layout) at (not-false (run dated (layoutOf b) b) (f .dated));
+      zones = rw (a .layout) at (and-right (eqb (length b) recordSize) (run zoned (layoutOf b) b) (not-false (fits zoned b) (f .fits)));
+      dates = rw (a .layout) at (and-right (eqb (length b) recordSize) (run dated (layoutOf b) b) (not-false (fits dated b) (f .dated)));
     }
 
 -- a record that fits its layout has no rule on its bytes alone
-pub fine : {zs : List Zone} {b : List ℕ} {r : Rec} → As b zs r → Judged zs b → all permitted b ≡ true → Fine july b
+pub fine : {zs : List Zone} {b : List ℕ} {r : Rec} → length b ≡ recordSize → As b zs r → Judged zs b → all permitted b ≡ true → Fine july b
 unfolding misfit undated
-fine a j p =
+fine {zs} {b} l a j p =
     record {
       permitted = ap not p;
       known = a .known;
-      fits = rw (a .layout) (ap not (j .zones));
-      dated = rw (a .layout) (ap not (j .dates));
+      fits = rw (a .layout) (ap not (both (eq-eqb (length b) recordSize l) (j .zones)));
+      dated = rw (a .layout) (ap not (both (eq-eqb (length b) recordSize l) (j .dates)));
     }
 
 -- values that zones can hold, as the record they are written as

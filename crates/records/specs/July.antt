@@ -1,9 +1,10 @@
 -- The records of July 2004: what their bytes hold, how values are written, and the rules 6, 8 and 9.
 use mathlib.Core.Path.{_≡_}
-use mathlib.Core.Bool.{Bool, true, not, _||_}
+use mathlib.Core.Bool.{Bool, true, not, _&&_, _||_}
 use mathlib.Core.List.{List, _++_}
 use Prim.Native.Nat.{ℕ}
 use Prim.Native.String.{String}
+use lib.Dec.{eqb}
 use lib.ListN.{length, take, getD, replicate}
 use lib.IntN.{ℤ}
 use Rattle.zones.specs.Choice.{pick}
@@ -12,7 +13,7 @@ use Rattle.zones.specs.Number.{valueOf}
 use Rattle.zones.specs.Text.{bytes}
 use Rattle.amounts.specs.Amounts.{amountOf}
 use Rattle.dates.specs.Days.{dateOf}
-use Rattle.layouts.specs.Zone.{part, Zone, dayIn, valueIn, zoned, dated, run, Values, encode, holdsAll}
+use Rattle.layouts.specs.Zone.{part, Kind, Ask, Zone, dayIn, valueIn, zoned, dated, run, Values, encode, holdsAll}
 use Rattle.grammar.specs.declared.Key.{Key}
 use Rattle.grammar.specs.Record.{Posting, Rec, opening, movement, complement, closing, Edition}
 use Rattle.grammar.specs.Files.{Coding}
@@ -51,13 +52,17 @@ layoutOf b =
     (pick (isCode "04" b) layout04
     (pick (isCode "05" b) (layout05Of (part 46 118 b)) layout07))
 
+-- a record of 120 bytes passes a rule by its layout; one of another length fits none
+abbrev pub fits : (Kind → Ask) → List ℕ → Bool
+fits rule b = eqb (length b) recordSize && run rule (layoutOf b) b
+
 -- 8: zone against its table line, or amount not as said
 unfoldable pub misfit : List ℕ → Bool
-misfit b = not (run zoned (layoutOf b) b)
+misfit b = not (fits zoned b)
 
 -- 9: date that does not exist
 unfoldable pub undated : List ℕ → Bool
-undated b = not (run dated (layoutOf b) b)
+undated b = not (fits dated b)
 
 -- what stands in a record, for any bytes
 abbrev pub keyIn : List ℕ → Key

@@ -1,0 +1,63 @@
+-- The definitions of a frame and of a line end at each return of `cut` and `wrong_end`.
+use mathlib.Core.Path.{_≡_, refl, ap, sym, _∙_}
+use mathlib.Core.Bool.{Bool, true, false, not}
+use mathlib.Core.List.{List, [], _∷_}
+use Prim.Native.Nat.{ℕ, zero-le, _+_, _/_, _%_, _<_, _≤_}
+use native.Mathlib.Nat.{mod-zero, div-zero}
+use native.Mathlib.Omega.{arith}
+use lib.Dec.{eqb}
+use lib.ListN.{length}
+use borrow.Author.Tests.{lt-ltb, le-ltb, eq-eqb, ne-eqb}
+use Rattle.zones.specs.Copy.{sameBytes}
+use Rattle.framing.specs.Files.{lineEnd, endOf, widthOf}
+use Rattle.framing.specs.Frames.{frameOf}
+use Rattle.framing.specs.declared.Form.{Form}
+use Rattle.framing.specs.declared.Frame.{Frame}
+use Rattle.framing.specs.declared.Frame.the-variants.{Records, Refused}
+
+module _ (f : Form) (size most : ℕ) (b : List ℕ) where
+  pub unknown : 2 < lineEnd f → Refused 1 ≡ frameOf f size most b
+  unfolding frameOf
+  unknown h = rw (lt-ltb 2 (lineEnd f) h)
+
+  module _ (k : lineEnd f ≤ 2) where
+    pub uneven-length : (length b % (size + lineEnd f) ≡ 0 → ⊥) → Refused 2 ≡ frameOf f size most b
+    unfolding frameOf widthOf
+    uneven-length h = rw (le-ltb 2 (lineEnd f) k, ne-eqb (length b % (size + lineEnd f)) 0 h)
+
+    pub too-many : length b % (size + lineEnd f) ≡ 0 → most < length b / (size + lineEnd f) → Refused 3 ≡ frameOf f size most b
+    unfolding frameOf widthOf
+    too-many e h = rw (le-ltb 2 (lineEnd f) k, eq-eqb (length b % (size + lineEnd f)) 0 e, lt-ltb most (length b / (size + lineEnd f)) h)
+
+    pub records : length b % (size + lineEnd f) ≡ 0 → length b / (size + lineEnd f) ≤ most
+        → Records (size + lineEnd f) (length b / (size + lineEnd f)) ≡ frameOf f size most b
+    unfolding frameOf widthOf
+    records e h = rw (le-ltb 2 (lineEnd f) k, eq-eqb (length b % (size + lineEnd f)) 0 e, le-ltb most (length b / (size + lineEnd f)) h)
+
+    -- records of no bytes
+    pub empty : size + lineEnd f ≡ 0 → length b ≡ 0 → Records 0 0 ≡ frameOf f size most b
+    empty w l =
+        let q : length b / (size + lineEnd f) ≡ 0 = rw w (div-zero (length b)) in
+        let z : Records (size + lineEnd f) (length b / (size + lineEnd f)) ≡ Records 0 0 = rw (q, w) in
+        sym z ∙ records (rw w (mod-zero (length b) ∙ l)) (rw q (zero-le))
+
+    pub unequal : size + lineEnd f ≡ 0 → (length b ≡ 0 → ⊥) → Refused 2 ≡ frameOf f size most b
+    unequal w l = uneven-length (λ e. l (sym (mod-zero (length b)) ∙ (ap (λ (n : ℕ). length b % n) (sym w) ∙ e)))
+
+-- the line end, by its number
+module _ (f : Form) (after : List ℕ) where
+  pub end-none : lineEnd f ≡ 0 → not (eqb (length after) 0) ≡ not (sameBytes after (endOf f))
+  unfolding endOf sameBytes
+  end-none h = rw h (by after)
+    where
+      by : (x : List ℕ) → not (eqb (length x) 0) ≡ not (sameBytes x [])
+      by [] = refl
+      by (y ∷ x) = ap not (ne-eqb (length (y ∷ x)) 0 (λ e. omega arith))
+
+  pub end-lf : lineEnd f ≡ 1 → endOf f ≡ 10 ∷ []
+  unfolding endOf
+  end-lf h = rw h
+
+  pub end-crlf : (lineEnd f ≡ 0 → ⊥) → (lineEnd f ≡ 1 → ⊥) → endOf f ≡ 13 ∷ 10 ∷ []
+  unfolding endOf
+  end-crlf g h = rw (ne-eqb (lineEnd f) 0 g, ne-eqb (lineEnd f) 1 h)

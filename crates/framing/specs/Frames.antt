@@ -1,0 +1,17 @@
+-- The code's answer on a file's length.
+use Prim.Native.Nat.{ℕ}
+use mathlib.Core.Bool.{Bool, not}
+use mathlib.Core.List.{List}
+use Rattle.zones.specs.Choice.{pick}
+use Rattle.zones.specs.Copy.{sameBytes}
+use Rattle.framing.specs.Files.{endOf, widthOf, countOf, unknownEnd, uneven, tooMany}
+use Rattle.framing.specs.declared.Form.{Form}
+use Rattle.framing.specs.declared.Frame.{Frame}
+use Rattle.framing.specs.declared.Frame.the-variants.{Records, Refused}
+
+-- 1 to 3 come first, in that order; else width and number of the records
+unfoldable pub frameOf : Form → (size most : ℕ) → List ℕ → Frame
+frameOf f size most b =
+    pick (unknownEnd f) (Refused 1)
+    (pick (uneven size f b) (Refused 2)
+    (pick (tooMany size most f b) (Refused 3) (Records (widthOf size f) (countOf size f b))))
