@@ -4,4 +4,6 @@ pub mod Valued
 pub mod Complements
 pub mod Lawful
 pub mod Theorems
+pub mod Looking
 pub mod Worked
+pub mod One

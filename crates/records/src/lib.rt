@@ -1,1 +1,242 @@
-// The records of a statement: definitions and laws, no code yet.
+// One record of a file: its kind, whether it fits its layout, and the values that the rules look at. A record is looked at where it stands, never copied.
+ghost use mathlib.Core.Path.{_≡_};
+ghost use mathlib.Core.List.{_∷_, []};
+ghost use lib.ListN.{length};
+ghost use Rattle.zones.specs.Class.{digit, blank, permitted, alnum};
+ghost use Rattle.zones.specs.Copy.{sameBytes};
+ghost use Rattle.amounts.specs.Amounts.{isAmount};
+ghost use Rattle.dates.specs.Days.{dateOf};
+ghost use Rattle.layouts.specs.Zone.{part, zoned, dated, run, dayIn, isDate, valueIn, blanks, text};
+ghost use Rattle.records.specs.Layouts.{front, layout01, layout04, layout05, layoutMmo};
+ghost use Rattle.records.specs.July.{recordSize, unknownCode, isMmo, layoutOf};
+ghost use Rattle.records.specs.Looks.{kindOf, hasValue, eitherOf};
+ghost use Rattle.records.specs.Answers.{LookAt};
+use amounts::Amount;
+use dates::Date;
+
+// What the check needs to know of a record. The kind of an unknown code is 7, as the definitions have it.
+pub struct Look {
+    pub unknown: bool,
+    pub kind: u8,
+    pub misfit: bool,
+    pub undated: bool,
+    pub day: u32,
+    pub amount: i64,
+    pub mmo: bool,
+}
+
+fn is_code(r: &[u8], second: u8) -> bool
+    requires { ⌜ length (now r) ≡ recordSize ⌝ }
+    ensures { λ t. ⌜ t ≡ sameBytes (48 ∷ second ∷ []) (part 1 2 (now (r .entry))) ⌝ }
+{
+    (48 == r[0]) & (second == r[1])
+}
+
+fn kind(r: &[u8]) -> u8
+    requires { ⌜ length (now r) ≡ recordSize ⌝ }
+    ensures { λ k. ⌜ k ≡ kindOf (now (r .entry)) ⌝ }
+{
+    if is_code(r, b'1') {
+        return 1;
+    }
+    if is_code(r, b'4') {
+        return 4;
+    }
+    if is_code(r, b'5') {
+        return 5;
+    }
+    7
+}
+
+// 6: unknown record code.
+fn unknown(r: &[u8]) -> bool
+    requires { ⌜ length (now r) ≡ recordSize ⌝ }
+    ensures { λ t. ⌜ t ≡ unknownCode (now (r .entry)) ⌝ }
+{
+    !(is_code(r, b'1') | (is_code(r, b'4') | (is_code(r, b'5') | is_code(r, b'7'))))
+}
+
+fn mmo(r: &[u8]) -> bool
+    requires { ⌜ length (now r) ≡ recordSize ⌝ }
+    ensures { λ t. ⌜ t ≡ isMmo (part 46 118 (now (r .entry))) ⌝ }
+{
+    zones::same(b"MMO", &r[45..48])
+}
+
+fn day_in(d: Date) -> u32
+    ensures { λ k. ⌜ k ≡ dayIn d ⌝ }
+{
+    match d {
+        Date::Day(k) => k,
+        Date::NoDay => 0,
+    }
+}
+
+fn is_date(d: Date) -> bool
+    ensures { λ t. ⌜ t ≡ isDate d ⌝ }
+{
+    match d {
+        Date::Day(_) => true,
+        Date::NoDay => false,
+    }
+}
+
+fn value_in(a: Amount) -> i64
+    ensures { λ v. ⌜ v ≡ valueIn a ⌝ }
+{
+    match a {
+        Amount::Value(v) => v,
+        Amount::NoAmount => 0,
+    }
+}
+
+fn has_value(a: Amount) -> bool
+    ensures { λ t. ⌜ t ≡ hasValue a ⌝ }
+{
+    match a {
+        Amount::Value(_) => true,
+        Amount::NoAmount => false,
+    }
+}
+
+// Positions 3 to 40 of an 01 or 07.
+fn balance_front(r: &[u8]) -> bool
+    requires { ⌜ length (now r) ≡ recordSize ⌝ }
+    ensures { λ t. ⌜ t ≡ run zoned (front "01" blanks blanks []) (now (r .entry)) ⌝ }
+{
+    zones::digits(&r[2..7])
+        & zones::blanks(&r[7..11])
+        & zones::digits(&r[11..16])
+        & zones::letters(&r[16..19])
+        & zones::digits(&r[19..20])
+        & zones::blanks(&r[20..21])
+        & zones::alnums(&r[21..32])
+        & zones::blanks(&r[32..34])
+        & zones::digits(&r[34..40])
+}
+
+// Positions 3 to 40 of a 04 or 05.
+fn movement_front(r: &[u8]) -> bool
+    requires { ⌜ length (now r) ≡ recordSize ⌝ }
+    ensures { λ t. ⌜ t ≡ run zoned (front "04" (text permitted) (text alnum) []) (now (r .entry)) ⌝ }
+{
+    zones::digits(&r[2..7])
+        & zones::permitted(&r[7..11])
+        & zones::digits(&r[11..16])
+        & zones::letters(&r[16..19])
+        & zones::digits(&r[19..20])
+        & zones::blanks(&r[20..21])
+        & zones::alnums(&r[21..32])
+        & zones::alnums(&r[32..34])
+        & zones::digits(&r[34..40])
+}
+
+fn balance_zones(r: &[u8], amount: bool) -> bool
+    requires { ⌜ (length (now r) ≡ recordSize) × (amount ≡ isAmount (part 91 104 (now r))) ⌝ }
+    ensures { λ t. ⌜ t ≡ run zoned layout01 (now (r .entry)) ⌝ }
+{
+    balance_front(r) & zones::blanks(&r[40..90]) & amount & zones::blanks(&r[104..120])
+}
+
+fn digits_or_blanks(s: &[u8]) -> bool
+    ensures { λ t. ⌜ t ≡ eitherOf digit blank (now (s .entry)) ⌝ }
+{
+    zones::digits(s) | zones::blanks(s)
+}
+
+fn movement_zones(r: &[u8], amount: bool) -> bool
+    requires { ⌜ (length (now r) ≡ recordSize) × (amount ≡ isAmount (part 91 104 (now r))) ⌝ }
+    ensures { λ t. ⌜ t ≡ run zoned layout04 (now (r .entry)) ⌝ }
+{
+    movement_front(r)
+        & digits_or_blanks(&r[40..42])
+        & zones::digits(&r[42..48])
+        & zones::permitted(&r[48..79])
+        & zones::blanks(&r[79..81])
+        & zones::digits(&r[81..88])
+        & zones::flags(&r[88..89])
+        & zones::flags(&r[89..90])
+        & amount
+        & zones::permitted(&r[104..120])
+}
+
+fn plain_zones(r: &[u8]) -> bool
+    requires { ⌜ length (now r) ≡ recordSize ⌝ }
+    ensures { λ t. ⌜ t ≡ run zoned layout05 (now (r .entry)) ⌝ }
+{
+    movement_front(r)
+        & zones::blanks(&r[40..45])
+        & zones::alnums(&r[45..48])
+        & zones::permitted(&r[48..118])
+        & zones::blanks(&r[118..120])
+}
+
+fn mmo_zones(r: &[u8]) -> bool
+    requires { ⌜ length (now r) ≡ recordSize ⌝ }
+    ensures { λ t. ⌜ t ≡ run zoned layoutMmo (now (r .entry)) ⌝ }
+{
+    movement_front(r)
+        & zones::blanks(&r[40..45])
+        & zones::letters(&r[48..51])
+        & zones::digits(&r[51..52])
+        & zones::digits(&r[52..66])
+        & zones::blanks(&r[66..118])
+        & zones::blanks(&r[118..120])
+}
+
+// 8: the zones of a record's own layout.
+fn zones_fit(r: &[u8], kind: u8, mmo: bool, amount: bool) -> bool
+    requires { ⌜ (length (now r) ≡ recordSize) × (kind ≡ kindOf (now r)) × (mmo ≡ isMmo (part 46 118 (now r))) × (amount ≡ isAmount (part 91 104 (now r))) ⌝ }
+    ensures { λ t. ⌜ t ≡ run zoned (layoutOf (now (r .entry))) (now (r .entry)) ⌝ }
+{
+    if kind == 4 {
+        return movement_zones(r, amount);
+    }
+    if kind != 5 {
+        return balance_zones(r, amount);
+    }
+    if mmo {
+        return mmo_zones(r);
+    }
+    plain_zones(r)
+}
+
+// 9: the date of every record, and the value date of a 04.
+fn dates_fit(r: &[u8], kind: u8, exists: bool) -> bool
+    requires { ⌜ (length (now r) ≡ recordSize) × (kind ≡ kindOf (now r)) × (exists ≡ isDate (dateOf (part 35 40 (now r)))) ⌝ }
+    ensures { λ t. ⌜ t ≡ run dated (layoutOf (now (r .entry))) (now (r .entry)) ⌝ }
+{
+    if kind == 4 {
+        return exists & is_date(dates::read(&r[42..48]));
+    }
+    exists
+}
+
+pub fn look_at(r: &[u8]) -> Look
+    ensures { λ k. ⌜ LookAt (now (r .entry)) k ⌝ }
+{
+    if r.len() != 120 {
+        return Look {
+            unknown: true,
+            kind: 7,
+            misfit: true,
+            undated: true,
+            day: 0,
+            amount: 0,
+            mmo: false,
+        };
+    }
+    let kind = kind(r);
+    let mmo = mmo(r);
+    let date = dates::read(&r[34..40]);
+    let amount = amounts::read(&r[90..104]);
+    Look {
+        unknown: unknown(r),
+        kind,
+        misfit: !zones_fit(r, kind, mmo, has_value(amount)),
+        undated: !dates_fit(r, kind, is_date(date)),
+        day: day_in(date),
+        amount: value_in(amount),
+        mmo,
+    }
+}

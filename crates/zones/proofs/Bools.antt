@@ -21,6 +21,13 @@ pub and-one : (a : Bool) → (a && true) ≡ a
 and-one true = refl
 and-one false = refl
 
+-- a test made of two, side by side
+pub conj : {a b x y : Bool} → a ≡ x → b ≡ y → (a && b) ≡ (x && y)
+conj p q = rw (p, q)
+
+pub disj : {a b x y : Bool} → a ≡ x → b ≡ y → (a || b) ≡ (x || y)
+disj p q = rw (p, q)
+
 -- either side of an `or` shows what both show
 pub either : {c : Bool} (a b : Bool) → (a ≡ true → c ≡ true) → (b ≡ true → c ≡ true) → (a || b) ≡ true → c ≡ true
 either true b f g h = f refl
