@@ -5,5 +5,6 @@ pub mod Complements
 pub mod Lawful
 pub mod Theorems
 pub mod Looking
+pub mod Compared
 pub mod Worked
 pub mod One

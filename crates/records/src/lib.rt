@@ -10,9 +10,11 @@ ghost use Rattle.layouts.specs.Zone.{part, zoned, dated, run, dayIn, isDate, va
 ghost use Rattle.records.specs.Layouts.{front, layout01, layout04, layout05, layoutMmo};
 ghost use Rattle.records.specs.July.{recordSize, unknownCode, isMmo, layoutOf};
 ghost use Rattle.records.specs.Looks.{kindOf, hasValue, eitherOf};
-ghost use Rattle.records.specs.Answers.{LookAt};
+ghost use Rattle.records.specs.Answers.{LookAt, SameKey, SameFront};
 use amounts::Amount;
 use dates::Date;
+
+pub mod rules;
 
 // What the check needs to know of a record. The kind of an unknown code is 7, as the definitions have it.
 pub struct Look {
@@ -239,4 +241,33 @@ pub fn look_at(r: &[u8]) -> Look
         amount: value_in(amount),
         mmo,
     }
+}
+
+// Bank, branch, currency, decimals and account of two records are the same. Records of another length than 120 have no key.
+pub fn same_key(a: &[u8], b: &[u8]) -> bool
+    ensures { λ t. ⌜ SameKey (now (a .entry)) (now (b .entry)) t ⌝ }
+{
+    if a.len() != 120 {
+        return false;
+    }
+    if b.len() != 120 {
+        return false;
+    }
+    zones::same(&a[2..7], &b[2..7])
+        & (zones::same(&a[11..16], &b[11..16])
+            & (zones::same(&a[16..19], &b[16..19])
+                & ((a[19] == b[19]) & zones::same(&a[21..32], &b[21..32]))))
+}
+
+// Positions 3 to 40 of two records are the same.
+pub fn same_front(a: &[u8], b: &[u8]) -> bool
+    ensures { λ t. ⌜ SameFront (now (a .entry)) (now (b .entry)) t ⌝ }
+{
+    if a.len() != 120 {
+        return false;
+    }
+    if b.len() != 120 {
+        return false;
+    }
+    zones::same(&a[2..40], &b[2..40])
 }
