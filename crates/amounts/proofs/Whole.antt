@@ -1,15 +1,15 @@
 -- Laws of whole numbers in 64 bits: a magnitude with its sign, sums and their bounds.
 use mathlib.Core.Path.{_≡_, refl, ap, sym, _∙_}
-use mathlib.Core.Bool.{Bool, true, false, _&&_, false≢true}
-use Prim.Native.Nat.{ℕ, zero, suc, _+_, _^_, _<_, _≤_, zero-le}
+use mathlib.Core.Bool.{Bool, true, false, _&&_, cond, false≢true}
+use Prim.Native.Nat.{ℕ, zero, suc, _+_, _-_, _^_, _<_, _≤_, zero-le}
 use native.Mathlib.Omega.{arith}
-use lib.Dec.{T, leb, leb·suc-suc}
-use lib.IntN.{ℤ, pos, negsuc, negℤ, natAbs, _-ℤ_, +ℤ-idl}
+use lib.Dec.{T, leb, ltb, leb·suc-suc}
+use lib.IntN.{ℤ, pos, negsuc, negℤ, natAbs, subℕ, _+ℤ_, _-ℤ_, +ℤ-idl}
 use lib.Signed.{mag, ltZ, leZ, nonNeg}
 use mir.Syntax.{w64}
-use mir.Val.{SFits, toZ}
-use mir.Facts.{toZ-pos}
-use borrow.Author.Tests.{le-ltb}
+use mir.Val.{SFits, toZ, ofZ}
+use mir.Facts.{toZ-pos, toZ-ofZ}
+use borrow.Author.Tests.{le-ltb, ltb-true}
 use Rattle.zones.proofs.Bools.{and-one}
 use Rattle.amounts.specs.Amounts.{signedOf, isNegative, hasAmount}
 
@@ -25,6 +25,24 @@ mag-le (negsuc n) = omega arith
 -- a whole number whose absolute value is below 2 ^ 63 fits an i64
 pub fits-abs : (z : ℤ) → natAbs z < 2 ^ 63 → SFits w64 z
 fits-abs z h = record { sfits = omega (arith, mag-le z) }
+
+-- and comes back from its bits
+pub back : (v : ℤ) → natAbs v < 2 ^ 63 → toZ w64 (ofZ w64 v) ≡ v
+back v h = toZ-ofZ (fits-abs v h)
+
+abs-by : (t : Bool) (a b : ℕ) → ltb a b ≡ t → natAbs (cond t (negsuc (b - suc a)) (pos (a - b))) ≤ a + b
+abs-by true a b e = omega (arith, ltb-true a b e)
+abs-by false a b e = omega arith
+
+abs-sub : (a b : ℕ) → natAbs (subℕ a b) ≤ a + b
+abs-sub a b = abs-by (ltb a b) a b refl
+
+-- the absolute value of a sum is at most the sum of the absolute values
+pub abs-add : (y z : ℤ) → natAbs (y +ℤ z) ≤ natAbs y + natAbs z
+abs-add (pos a) (pos b) = omega arith
+abs-add (pos a) (negsuc b) = abs-sub a (suc b)
+abs-add (negsuc a) (pos b) = omega (arith, abs-sub b (suc a))
+abs-add (negsuc a) (negsuc b) = omega arith
 
 pub minus : (m : ℕ) → m < 2 ^ 63 → pos 0 -ℤ toZ w64 m ≡ signedOf true m
 minus m h = rw (toZ-pos w64 h) (+ℤ-idl (negℤ (pos m)))

@@ -1,6 +1,6 @@
 -- The definitions of a frame and of a line end at each return of `cut` and `wrong_end`.
 use mathlib.Core.Path.{_≡_, refl, ap, sym, _∙_}
-use mathlib.Core.Bool.{Bool, true, false, not}
+use mathlib.Core.Bool.{not}
 use mathlib.Core.List.{List, [], _∷_}
 use Prim.Native.Nat.{ℕ, zero-le, _+_, _/_, _%_, _<_, _≤_}
 use native.Mathlib.Nat.{mod-zero, div-zero}
@@ -12,7 +12,6 @@ use Rattle.zones.specs.Copy.{sameBytes}
 use Rattle.framing.specs.Files.{lineEnd, endOf, widthOf}
 use Rattle.framing.specs.Frames.{frameOf}
 use Rattle.framing.specs.declared.Form.{Form}
-use Rattle.framing.specs.declared.Frame.{Frame}
 use Rattle.framing.specs.declared.Frame.the-variants.{Records, Refused}
 
 module _ (f : Form) (size most : ℕ) (b : List ℕ) where

@@ -1,10 +1,8 @@
 -- The code's answer on a file's length.
 use Prim.Native.Nat.{ℕ}
-use mathlib.Core.Bool.{Bool, not}
 use mathlib.Core.List.{List}
 use Rattle.zones.specs.Choice.{pick}
-use Rattle.zones.specs.Copy.{sameBytes}
-use Rattle.framing.specs.Files.{endOf, widthOf, countOf, unknownEnd, uneven, tooMany}
+use Rattle.framing.specs.Files.{widthOf, countOf, unknownEnd, uneven, tooMany}
 use Rattle.framing.specs.declared.Form.{Form}
 use Rattle.framing.specs.declared.Frame.{Frame}
 use Rattle.framing.specs.declared.Frame.the-variants.{Records, Refused}

@@ -28,7 +28,7 @@ module _ (C : Coding) (f : Form) where
     pub quiet : firstOf (rules (C .edition) m (recOf C p)) ≡ 0
 
   -- no rule applies exactly if all three are right
-  piece : (m : Mode) (p : List ℕ) → firstOf (fileRules C f m p) ≡ 0 → Piece m p
+  pub piece : (m : Mode) (p : List ℕ) → firstOf (fileRules C f m p) ≡ 0 → Piece m p
   piece m p j =
       let x = off 0 (fileRules C f m p) (omega arith) j in
       let y = x .1 .1 .1 in

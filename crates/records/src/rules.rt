@@ -6,8 +6,7 @@ ghost use Rattle.records.specs.Answers.{Misplaced, SecondMmo, Misdated, 
 pub fn misplaced(size: u64, movement: u8, kind: u8) -> bool
     ensures { λ t. ⌜ Misplaced size movement kind t ⌝ }
 {
-    ((size == 0) & (kind != 1))
-        | ((size != 0) & ((kind == 1) | ((kind == 5) & (movement == 0))))
+    ((size == 0) & (kind != 1)) | ((size != 0) & ((kind == 1) | ((kind == 5) & (movement == 0))))
 }
 
 // 11: second MMO in a movement.

@@ -1,5 +1,5 @@
 use mathlib.Core.List.{[]}
-use mathlib.Core.Path.{ap, _∙_}
+use mathlib.Core.Path.{ap}
 use mathlib.Core.Bool.{not}
 use Rattle.framing.proofs.Framing.{end-none, end-lf, end-crlf}
 use borrow.Author.Needs.{needs}

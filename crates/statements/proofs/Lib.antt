@@ -1,0 +1,6 @@
+pub mod Modes
+pub mod Taken
+pub mod Judging
+pub mod Loop
+pub mod Framed
+pub mod One

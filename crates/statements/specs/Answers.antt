@@ -1,0 +1,31 @@
+-- The contract of the check, and its answer as the paper gives it.
+use mathlib.Core.Path.{_≡_}
+use mathlib.Core.List.{List}
+use Prim.Native.Nat.{ℕ}
+use Rattle.framing.specs.declared.Form.{Form}
+use Rattle.grammar.specs.Answer.{Answer, accepted, refused}
+use Rattle.grammar.specs.Files.{checkOf}
+use Rattle.records.specs.July.{july}
+use Rattle.statements.specs.declared.Checked.{Checked}
+use Rattle.statements.specs.declared.Checked.the-variants.{Accepted, Refused}
+
+-- an answer of the definitions as the code gives it
+abbrev pub checkedOf : Answer → Checked
+checkedOf (accepted c) = Accepted (c .statements) (c .movements) (c .complements)
+checkedOf (refused n r) = Refused n r
+
+-- number, record, statements, movements and complements: zero where the paper says zero
+pub record Paper : Type 0 where
+  pub number : ℕ
+  pub at : ℕ
+  pub statements : ℕ
+  pub movements : ℕ
+  pub complements : ℕ
+
+abbrev pub paperCheck : Checked → Paper
+paperCheck (Accepted s m c) = record { number = 0; at = 0; statements = s; movements = m; complements = c }
+paperCheck (Refused n r) = record { number = n; at = r; statements = 0; movements = 0; complements = 0 }
+
+-- check
+pub record Check (f : Form) (b : List ℕ) (r : Checked) : Type 0 where
+  pub answer : r ≡ checkedOf (checkOf july f b)
