@@ -26,6 +26,12 @@ fn is_leap(y: u64) -> bool
     (y % 4 == 0) & ((y % 100 != 0) | (y % 400 == 0))
 }
 
+fn wide(days: u8) -> u64
+    ensures { λ r. ⌜ r ≡ days ⌝ }
+{
+    days as u64
+}
+
 fn days_in(y: u64, m: u64) -> u64
     ensures { λ r. ⌜ r ≡ daysIn y m ⌝ }
 {
@@ -35,8 +41,8 @@ fn days_in(y: u64, m: u64) -> u64
     if m >= 13 {
         return 0;
     }
-    let days: [u64; 13] = [0, 31, 28, 31, 30, 31, 30, 31, 31, 30, 31, 30, 31];
-    days[m as usize]
+    let days: [u8; 13] = [0, 31, 28, 31, 30, 31, 30, 31, 31, 30, 31, 30, 31];
+    wide(days[m as usize])
 }
 
 fn exists(y: u64, m: u64, d: u64) -> bool

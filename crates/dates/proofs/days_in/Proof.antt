@@ -16,16 +16,16 @@ returns-2 : tie.Need-returns-2
 unfolding daysIn
 returns-2 c = rw (← c .before .before .is-leap .ensures, c .before .if1 .left) (sym (List·getD-eq-default monthDays 0 (c .if2 .taken)))
 
-mul-result : tie.Need-mul-result
-mul-result c = search needs
+array-read-wide : tie.Need-array-read-wide
+array-read-wide c = search needs
 
-array-read-result : tie.Need-array-read-result
-array-read-result c = search needs
+wide-requires : tie.Need-wide-requires
+wide-requires c κs = search needs
 
 returns-3 : tie.Need-returns-3
 unfolding daysIn
-returns-3 c = rw (← c .before .before .is-leap .ensures, c .before .if1 .left)
+returns-3 c = rw (c .wide .ensures, ← c .before .before .before .is-leap .ensures, c .before .before .if1 .left)
 
 pub days-in-spec : {M : Type 1} → statement M
 days-in-spec =
-    tie.close (tie.spec is-leap-requires returns returns-2 mul-result array-read-result returns-3)
+    tie.close (tie.spec is-leap-requires returns returns-2 array-read-wide wide-requires returns-3)
