@@ -1,0 +1,55 @@
+use mathlib.Core.Path.{_≡_}
+use Prim.Native.Nat.{_≤_, _-_}
+use lib.ListN.{length}
+use borrow.Author.Needs.{needs}
+use Rattle.check_cases.proofs.put_movements.Statement.{statement}
+use Rattle.check_cases.proofs.put_movements.Tie as tie
+
+abbrev Inv-loop : tie.InvT-loop
+Inv-loop big₀ count i₀ big i = (i ≤ count) × (length big ≡ length big₀)
+
+abbrev μ-loop : tie.MeasureT-loop
+μ-loop big₀ count i₀ big i = count - i
+
+put-opening-requires : tie.Need-put-opening-requires Inv-loop μ-loop
+put-opening-requires c κs = search needs
+
+loop-holds : tie.Need-loop-holds Inv-loop μ-loop
+loop-holds c = search needs
+
+add-put-movement : tie.Need-add-put-movement Inv-loop μ-loop
+add-put-movement c = search needs
+
+put-movement-requires : tie.Need-put-movement-requires Inv-loop μ-loop
+put-movement-requires c κs = search needs
+
+add-i : tie.Need-add-i Inv-loop μ-loop
+add-i c = search needs
+
+loop-less : tie.Need-loop-less Inv-loop μ-loop
+loop-less c = search needs
+
+loop-again : tie.Need-loop-again Inv-loop μ-loop
+loop-again c = search needs
+
+same-length : tie.Need-same-length Inv-loop μ-loop
+same-length c = search needs
+
+returns : tie.Need-returns Inv-loop μ-loop
+returns c = search needs
+
+pub put-movements-spec : {M : Type 1} → statement M
+put-movements-spec =
+    tie.close
+    (tie.spec
+    Inv-loop
+    μ-loop
+    put-opening-requires
+    loop-holds
+    add-put-movement
+    put-movement-requires
+    add-i
+    loop-less
+    loop-again
+    same-length
+    returns)
