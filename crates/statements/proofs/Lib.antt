@@ -3,4 +3,5 @@ pub mod Taken
 pub mod Judging
 pub mod Loop
 pub mod Framed
+pub mod Demand
 pub mod One

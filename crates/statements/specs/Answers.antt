@@ -14,6 +14,11 @@ abbrev pub checkedOf : Answer → Checked
 checkedOf (accepted c) = Accepted (c .statements) (c .movements) (c .complements)
 checkedOf (refused n r) = Refused n r
 
+-- and back
+abbrev pub answerOf : Checked → Answer
+answerOf (Accepted s m c) = accepted (record { statements = s; movements = m; complements = c })
+answerOf (Refused n r) = refused n r
+
 -- number, record, statements, movements and complements: zero where the paper says zero
 pub record Paper : Type 0 where
   pub number : ℕ

@@ -3,7 +3,7 @@ use mathlib.Core.Path.{_≡_, refl, ap, sym, _∙_}
 use mathlib.Core.Bool.{true}
 use mathlib.Core.List.{List, [], _∷_, _++_, append-nil}
 use Prim.Native.Nat.{ℕ, zero, suc, _+_, _-_, _*_, _/_, _%_, _^_, _<_, _≤_}
-use native.Mathlib.Nat.{pow-suc, pow-le-pow-right, not-suc-le-zero, le-of-suc-le-suc, add-zero, zero-add, mul-le-mul-right, mul-comm, mul-assoc, lt-of-lt-of-le}
+use native.Mathlib.Nat.{pow-suc, pow-le-pow-right, not-suc-le-zero, le-of-suc-le-suc, add-zero, zero-add, mul-le-mul-right, mul-comm, mul-assoc, lt-of-lt-of-le, le-trans}
 use native.Mathlib.Numerals.{add-one, sub-one}
 use native.Mathlib.Omega.{arith}
 use lib.Dec.{lit<}
@@ -106,3 +106,16 @@ below-from n (d ∷ s) h =
 
 pub value-below : (s : List ℕ) → all digit s ≡ true → valueOf s < 10 ^ length s
 value-below s h = omega (arith, below-from 0 s h)
+
+-- any bytes are worth less than twice the next power of ten
+most-from : (n : ℕ) (s : List ℕ) → 3 * valueFrom n s + 5 ≤ (3 * n + 5) * 10 ^ length s
+unfolding valueFrom
+most-from n [] = omega arith
+most-from n (d ∷ s) =
+    let P = 10 ^ length s in
+    let le : (3 * (n * 10 + d % 16) + 5) * P ≤ (3 * n + 5) * 10 * P = mul-le-mul-right P (omega arith) in
+    let e : (3 * n + 5) * 10 * P ≡ (3 * n + 5) * 10 ^ suc (length s) = rw (pow-suc, mul-comm (10 ^ length s) 10, mul-assoc) in
+    le-trans (most-from (n * 10 + d % 16) s) (rw e at le)
+
+pub value-most : (s : List ℕ) → 3 * valueOf s + 5 ≤ 5 * 10 ^ length s
+value-most s = most-from 0 s

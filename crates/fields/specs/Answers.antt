@@ -1,0 +1,15 @@
+-- The contract of each public function: its one answer.
+use mathlib.Core.Path.{_≡_}
+use mathlib.Core.List.{List}
+use Prim.Native.Nat.{ℕ}
+use Rattle.grammar.specs.declared.Key.{Key}
+use Rattle.fields.specs.Rows.{keyAtOf, rowAtOf}
+use Rattle.fields.specs.declared.Movement.{Movement}
+
+-- key_at
+pub record KeyAt (b : List ℕ) (r : Key) : Type 0 where
+  pub answer : r ≡ keyAtOf b
+
+-- row_at
+pub record RowAt (b : List ℕ) (complements : ℕ) (r : Movement) : Type 0 where
+  pub answer : r ≡ rowAtOf b complements
