@@ -1,0 +1,9 @@
+pub mod Walk
+pub mod Over
+pub mod Codes
+pub mod Rows
+pub mod Cursor
+pub mod Placed
+pub mod Turns
+pub mod Movements
+pub mod One

@@ -1,0 +1,57 @@
+-- What a loop over the statements of an accepted file goes by: it starts at 0, and goes on from a statement's place to its end while it is before the file's.
+use mathlib.Core.Path.{_≡_, ap, _∙_}
+use mathlib.Core.List.{List}
+use Prim.Native.Nat.{ℕ, _+_, _-_, _*_, _<_, _≤_}
+use native.Mathlib.Nat.{add-mul, add-sub-cancel-left, mul-le-mul-right}
+use native.Mathlib.Omega.{arith}
+use lib.ListN.{length, take, drop, getD, length-drop}
+use lib.Seq.{drop-length}
+use Rattle.zones.specs.Pieces.{flat}
+use Rattle.framing.specs.declared.Form.{Form}
+use Rattle.framing.specs.Files.{widthOf}
+use Rattle.grammar.specs.Statements.{Statement, allRecords}
+use Rattle.grammar.specs.Files.{Reads, statementsOf}
+use Rattle.grammar.specs.Parts.{sizeOf, recordsBefore, nothing, partOf}
+use Rattle.grammar.proofs.Seam.{piecesFor}
+use Rattle.records.specs.July.{recordSize, july, july2004}
+use Rattle.records.proofs.Theorems.{counts, reads, unique}
+use Rattle.readers.specs.Places.{endAfter}
+use Rattle.readers.proofs.Rows.{some, drop-before, before-next, from-record}
+use Rattle.readers.proofs.Cursor.{cursor}
+use Rattle.readers.proofs.Placed.{before-inside}
+
+module _ {f : Form} {b : List ℕ} {ss : List Statement} (r : Reads july f b ss) where
+  -- the place of a statement lies before the file's end
+  pub before-end : (j : ℕ) → j < length ss → recordsBefore j ss * widthOf recordSize f < length b
+  before-end j h =
+      let w = widthOf recordSize f in
+      let n = sizeOf (getD ss j nothing) in
+      let i = before-inside r (j + 1) (omega arith) in
+      let e : recordsBefore (j + 1) ss * w ≡ recordsBefore j ss * w + n * w =
+      rw (before-next j ss h) (add-mul (recordsBefore j ss) n w) in
+      let l : 2 ≤ n = omega arith in
+      let k : 2 * w ≤ n * w = mul-le-mul-right w l in
+      omega (arith, some f)
+
+  -- the place after the last statement is the file's end
+  pub after-last : recordsBefore (length ss) ss * widthOf recordSize f ≡ length b
+  unfolding flat allRecords
+  after-last =
+      let m = recordsBefore (length ss) ss * widthOf recordSize f in
+      let e : length (drop m b) ≡ 0 =
+      ap length (from-record r (recordsBefore (length ss) ss) ∙ ap (λ l. flat (piecesFor july f l)) (drop-before (length ss) ss ∙ ap (allRecords july2004) (drop-length ss))) in
+      omega (arith, e, length-drop m b, before-inside r (length ss) (omega arith))
+
+  -- what lies between the two places is statement j + 1
+  pub between : (j : ℕ) → j < length ss
+      → take (endAfter f b (recordsBefore j ss * widthOf recordSize f) - recordsBefore j ss * widthOf recordSize f) (drop (recordsBefore j ss * widthOf recordSize f) b)
+      ≡ partOf july f b (j + 1)
+  unfolding partOf
+  between j h =
+      let w = widthOf recordSize f in
+      let n = sizeOf (getD ss j nothing) in
+      let q : statementsOf july f b ≡ ss = unique (reads f b (counts r)) r in
+      let z : j + 1 - 1 ≡ j = omega arith in
+      let e : endAfter f b (recordsBefore j ss * w) - recordsBefore j ss * w ≡ n * w =
+      rw (cursor r j h, before-next j ss h, add-mul (recordsBefore j ss) n w) (add-sub-cancel-left (recordsBefore j ss * w) (n * w)) in
+      rw (e, q, z)
