@@ -2,7 +2,8 @@
 //!
 //! Positions count from 1, both ends included, as in the paper.
 
-const RECORD: usize = 120;
+/// Bytes of a record without its line end.
+pub const RECORD: usize = 120;
 const MOST_RECORDS_IN_FILE: usize = 20_000;
 const MOST_RECORDS_IN_STATEMENT: u64 = 9_999;
 
@@ -362,7 +363,7 @@ fn is_mmo(record: &[u8]) -> bool {
 }
 
 /// The bytes from position `first` to position `last`.
-fn zone(record: &[u8], first: usize, last: usize) -> &[u8] {
+pub fn zone(record: &[u8], first: usize, last: usize) -> &[u8] {
     &record[first - 1..last]
 }
 
@@ -384,7 +385,7 @@ fn blank(zone: &[u8]) -> bool {
 }
 
 /// The value of decimal digits.
-fn number(digits: &[u8]) -> u64 {
+pub fn number(digits: &[u8]) -> u64 {
     digits
         .iter()
         .fold(0, |value, digit| 10 * value + u64::from(digit - b'0'))

@@ -1,18 +1,29 @@
-//! The command over the check and the generators.
+//! The command over the check, the readers and the generators.
 
-use std::io::{self, Error, Write};
+use std::io::{self, Error, Read, Write};
 use std::path::Path;
 use std::process::ExitCode;
 use std::time::Instant;
 
 use oracle::check::check;
+use oracle::listing::listing;
+use oracle::listing_cases::listings;
+use oracle::read::{complement, head, movement, place};
+use oracle::show::{complement_line, head_line, line, place_line, readings, row_line};
 use oracle::write::{answer_text, big, corpus, kept};
 
 const USAGE: &str = "usage:
   oracle check LINE_END FILE..
+  oracle place LINE_END FILE K
+  oracle head LINE_END FILE K
+  oracle movement LINE_END FILE K M
+  oracle complement LINE_END FILE K M C
+  oracle readings LINE_END FILE
+  oracle listing < FILE
   oracle corpus SEED COUNT OUT
   oracle kept SEED COUNT DIR
   oracle big DIR
+  oracle listings SEED COUNT DIR
   oracle time FILE LINE_END TIMES";
 
 fn main() -> ExitCode {
@@ -38,11 +49,54 @@ fn run(arguments: &[&str]) -> io::Result<()> {
             print_lines(&kept(number(seed)?, count, Path::new(directory))?)
         }
         ["big", directory] => print_lines(&big(Path::new(directory))?),
+        ["listings", seed, count, directory] => {
+            let count = number(count)? as usize;
+            print_lines(&listings(number(seed)?, count, Path::new(directory))?)
+        }
+        ["listing"] => print_listing(),
         ["time", file, line_end, times] => {
             print_lines(&[time(file, number(line_end)?, number(times)?)?])
         }
+        _ => run_reader(arguments),
+    }
+}
+
+/// The readers of one file.
+fn run_reader(arguments: &[&str]) -> io::Result<()> {
+    match arguments {
+        ["place", line_end, file, k] => {
+            let file = std::fs::read(file)?;
+            let answer = place(number(line_end)?, &file, number(k)?);
+            print_lines(&[line(answer, place_line)])
+        }
+        ["head", line_end, file, k] => {
+            let file = std::fs::read(file)?;
+            let answer = head(number(line_end)?, &file, number(k)?);
+            print_lines(&[line(answer, head_line)])
+        }
+        ["movement", line_end, file, k, m] => {
+            let file = std::fs::read(file)?;
+            let answer = movement(number(line_end)?, &file, number(k)?, number(m)?);
+            print_lines(&[line(answer, row_line)])
+        }
+        ["complement", line_end, file, k, m, c] => {
+            let file = std::fs::read(file)?;
+            let answer = complement(number(line_end)?, &file, number(k)?, number(m)?, number(c)?);
+            print_lines(&[line(answer, complement_line)])
+        }
+        ["readings", line_end, file] => {
+            let file = std::fs::read(file)?;
+            print_lines(&readings(number(line_end)?, &file))
+        }
         _ => Err(Error::other(USAGE)),
     }
+}
+
+/// The listing program: nothing on standard error, status 0 whatever it reads.
+fn print_listing() -> io::Result<()> {
+    let mut input = Vec::new();
+    io::stdin().lock().read_to_end(&mut input)?;
+    io::stdout().lock().write_all(listing(&input).as_bytes())
 }
 
 fn number(text: &str) -> io::Result<u64> {

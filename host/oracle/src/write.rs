@@ -11,7 +11,7 @@ use crate::rng::Rng;
 use crate::valid::{file, small_file, Draft};
 
 /// Kept files are shorter than this.
-const KEPT_BYTES: usize = 6 * 1024;
+pub const KEPT_BYTES: usize = 6 * 1024;
 /// The seed of the large cases.
 const BIG_SEED: u64 = 20_000;
 
@@ -110,7 +110,7 @@ pub fn kept(seed: u64, count: usize, directory: &Path) -> io::Result<Vec<String>
 
 /// The first recipe of each family, then one more of each, and so on. The first is always the
 /// same, so that every refusal is shown; the others come in an order of the seed.
-fn one_of_each_family<'a>(rng: &mut Rng, list: &'a [Recipe]) -> Vec<&'a Recipe> {
+pub fn one_of_each_family<'a>(rng: &mut Rng, list: &'a [Recipe]) -> Vec<&'a Recipe> {
     let mut families = families(list);
     for family in &mut families {
         shuffle(rng, &mut family[1..]);

@@ -1,0 +1,82 @@
+//! The commands over the readers and the listing, run as programs.
+
+use std::io::Write;
+use std::path::PathBuf;
+use std::process::{Command, Output, Stdio};
+
+use crate::common::{with_complements, worked};
+
+fn oracle(arguments: &[&str], input: &[u8]) -> Output {
+    let mut child = Command::new(env!("CARGO_BIN_EXE_oracle"))
+        .args(arguments)
+        .stdin(Stdio::piped())
+        .stdout(Stdio::piped())
+        .stderr(Stdio::piped())
+        .spawn()
+        .unwrap();
+    child.stdin.take().unwrap().write_all(input).unwrap();
+    child.wait_with_output().unwrap()
+}
+
+/// Status 0 and nothing on standard error, whatever is read.
+#[test]
+fn g5_status_and_standard_error_of_the_listing() {
+    let inputs = [
+        (worked().bytes(b"\n"), "OK 1\n"),
+        (worked().bytes(b"\r\n"), "REFUS 2 0\n"),
+        (vec![b'x'; 65_341], "TROP LONG\n"),
+        (Vec::new(), "OK 0\n"),
+    ];
+    for (input, end) in inputs {
+        let output = oracle(&["listing"], &input);
+        assert_eq!(output.status.code(), Some(0));
+        assert_eq!(output.stderr, b"");
+        assert_eq!(output.stdout, oracle::listing::listing(&input).as_bytes());
+        assert!(output.stdout.ends_with(end.as_bytes()));
+    }
+}
+
+#[test]
+fn reader_commands() {
+    let path = PathBuf::from(env!("CARGO_TARGET_TMPDIR")).join("readers.cfonb");
+    std::fs::write(&path, with_complements().bytes(b"\r\n")).unwrap();
+    let path = path.to_str().unwrap();
+    let mmo = format!("MMO{:70}\n", "USD200000000002700");
+    let cases: [(&[&str], &str); 9] = [
+        (&["place", "2", path, "1"], "0|854\n"),
+        (&["place", "2", path, "2"], "refused 16 0\n"),
+        (&["place", "1", path, "1"], "refused 2 0\n"),
+        (
+            &["head", "2", path, "1"],
+            "12345|00010|EUR|2|0001234567A|20250131|100000|20250228|120833|2\n",
+        ),
+        (
+            &["movement", "2", path, "1", "1"],
+            "    |05|20250205|  |20250206|                               |0|0|0|25050|\
+             \u{20}               |3\n",
+        ),
+        (&["movement", "2", path, "1", "3"], "refused 17 0\n"),
+        (&["complement", "2", path, "1", "1", "2"], &mmo),
+        (&["complement", "2", path, "1", "1", "0"], "refused 17 0\n"),
+        (&["readings", "3", path], "refused 1 0\n"),
+    ];
+    for (arguments, expected) in cases {
+        let output = oracle(arguments, b"");
+        assert_eq!(output.status.code(), Some(0));
+        assert_eq!(String::from_utf8(output.stdout).unwrap(), expected);
+    }
+}
+
+#[test]
+fn mistakes_in_the_call() {
+    let calls: [&[&str]; 5] = [
+        &["place", "1"],
+        &["place", "x", "no such file", "1"],
+        &["movement", "1", "no such file", "1"],
+        &["listing", "1"],
+        &["unknown", "1", "2"],
+    ];
+    for arguments in calls {
+        assert_eq!(oracle(arguments, b"").status.code(), Some(2));
+    }
+}
