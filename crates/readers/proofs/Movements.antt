@@ -87,7 +87,7 @@ module _ {f : Form} {b : List ℕ} {ss : List Statement} (r : Reads july f b ss)
   before i = recordsBefore j ss + (1 + sizes (take i (getD ss j nothing .movements)))
 
   -- the records from there on
-  rest : (i : ℕ) → (l : List Rec) × (drop (before i) (allRecords july2004 ss)
+  pub rest : (i : ℕ) → (l : List Rec) × (drop (before i) (allRecords july2004 ss)
       ≡ movesThen july2004 (getD ss j nothing .key) (drop i (getD ss j nothing .movements))
       (closing (getD ss j nothing .key) (getD ss j nothing .new-date) (getD ss j nothing .new-balance) ∷ l))
   rest i =

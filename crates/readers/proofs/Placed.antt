@@ -132,7 +132,7 @@ same-at e = (cc, cc)
 apart : {x n m r : ℕ} → At x n ≡ Refused m r → ⊥
 apart e = let z : _≡_ {A = ℕ} 0 1 = cc in omega arith
 
-found : (f : Form) (b : List ℕ) (k : ℕ) {x n : ℕ} → At x n ≡ placeOf f b k → Found f b k x n
+pub found : (f : Form) (b : List ℕ) (k : ℕ) {x n : ℕ} → At x n ≡ placeOf f b k → Found f b k x n
 unfolding placeOf
 found f b k {x} {n} e = by (checkOf july f b) (eqb k 0) (ltb (length (statementsOf july f b)) k) refl refl refl e
   where

@@ -1,0 +1,166 @@
+-- The head of a statement, as the code gathers it.
+use mathlib.Core.Path.{_≡_, refl, sym, _∙_}
+use mathlib.Core.List.{List, _∷_}
+use Prim.Native.Nat.{ℕ, suc, _+_, _-_, _*_, _<_, _≤_}
+use native.Mathlib.Nat.{add-zero, add-mul}
+use native.Mathlib.Omega.{arith}
+use lib.ListN.{length, take, drop, getD}
+use lib.Seq.{drop-cons, drop-length, take-all}
+use lib.IntN.{ℤ}
+use mir.Syntax.{w64}
+use mir.Val.{toZ, ofZ}
+use borrow.Author.Tests.{eq-eqb, ltb-false}
+use Rattle.amounts.proofs.Whole.{back}
+use Rattle.framing.specs.declared.Form.{Form}
+use Rattle.framing.specs.Files.{lineEnd, widthOf}
+use Rattle.grammar.specs.declared.Key.{Key}
+use Rattle.grammar.specs.Answer.{Answer, accepted, refused}
+use Rattle.grammar.specs.Record.{opening, closing}
+use Rattle.grammar.specs.Statements.{Statement, sizes, allRecords, movementsOf}
+use Rattle.grammar.specs.Files.{statementsOf, checkOf}
+use Rattle.grammar.specs.Parts.{recordsBefore, nothing}
+use Rattle.grammar.proofs.Rows.{all-cons}
+use Rattle.records.specs.July.{recordSize, july, july2004, keyIn, dateIn, amountIn, decodeRecord}
+use Rattle.records.specs.declared.Look.{Look}
+use Rattle.records.specs.Looks.{lookOf}
+use Rattle.records.proofs.Theorems.{counts, reads}
+use Rattle.fields.specs.Rows.{keyAtOf}
+use Rattle.statements.specs.declared.Checked.the-variants as C
+use Rattle.statements.specs.Answers.{checkedOf}
+use Rattle.statements.proofs.Judging.{look-small}
+use Rattle.statements.proofs.Modes.{View, one, four, five, seven, view}
+use Rattle.readers.specs.declared.Place.the-variants.{At, Refused}
+use Rattle.readers.specs.Places.{placeOf}
+use Rattle.readers.proofs.Rows.{drop-before}
+use Rattle.readers.proofs.Movements.{before, rest}
+use Rattle.readers.proofs.Placed.{found, part-cut, part-alone}
+use Rattle.contents.specs.declared.Head.{Head}
+use Rattle.contents.specs.declared.Headed.{Headed}
+use Rattle.contents.specs.Heads.{recordAtOf, headFrom, noHead, headIn, headAt, movementsIn}
+use Rattle.contents.proofs.Records.{HoldsAt, record-there}
+
+-- the values of a balance
+record Balance (b : List ℕ) (k : Key) (d : ℕ) (a : ℤ) : Type 0 where
+  key : keyIn b ≡ k
+  day : dateIn b ≡ d
+  amount : amountIn b ≡ a
+
+opened : (b : List ℕ) {k : Key} {d : ℕ} {a : ℤ} → decodeRecord b ≡ opening k d a → Balance b k d a
+opened b {k} {d} {a} e = by (view b)
+  where
+    by : View b → Balance b k d a
+    by (one q p) = let z = sym p ∙ e in record { key = cc; day = cc; amount = cc }
+    by (four q p) = absurd (let g = sym p ∙ e in let z : _≡_ {A = ℕ} 0 1 = cc in omega arith)
+    by (five q p) = absurd (let g = sym p ∙ e in let z : _≡_ {A = ℕ} 0 1 = cc in omega arith)
+    by (seven q p) = absurd (let g = sym p ∙ e in let z : _≡_ {A = ℕ} 0 1 = cc in omega arith)
+
+closed : (b : List ℕ) {k : Key} {d : ℕ} {a : ℤ} → decodeRecord b ≡ closing k d a → Balance b k d a
+closed b {k} {d} {a} e = by (view b)
+  where
+    by : View b → Balance b k d a
+    by (seven q p) = let z = sym p ∙ e in record { key = cc; day = cc; amount = cc }
+    by (four q p) = absurd (let g = sym p ∙ e in let z : _≡_ {A = ℕ} 0 1 = cc in omega arith)
+    by (five q p) = absurd (let g = sym p ∙ e in let z : _≡_ {A = ℕ} 0 1 = cc in omega arith)
+    by (one q p) = absurd (let g = sym p ∙ e in let z : _≡_ {A = ℕ} 0 1 = cc in omega arith)
+
+-- the head that the code puts together
+pub gathered : (o c : List ℕ) {k : Key} {p q : Look} → k ≡ keyAtOf o → p ≡ lookOf o → q ≡ lookOf c
+    → _≡_ {A = Head}
+    (record {
+      key = k;
+      «old_date» = p .day;
+      «old_balance» = toZ w64 (ofZ w64 (p .amount));
+      «new_date» = q .day;
+      «new_balance» = toZ w64 (ofZ w64 (q .amount));
+    })
+    (headAt o c)
+unfolding headAt
+gathered o c {k} {p} {q} e g h =
+    let x = look-small o g in
+    let y = look-small c h in
+    rw (back (p .amount) (omega arith), back (q .amount) (omega arith), e, g, h)
+
+-- a 01 and a 07 with a statement's values hold its head
+head-held : (s : Statement) (o c : List ℕ) → length o ≡ recordSize → length c ≡ recordSize
+    → Balance o (s .key) (s .old-date) (s .old-balance) → Balance c (s .key) (s .new-date) (s .new-balance) → headAt o c ≡ headFrom s
+unfolding headAt keyAtOf lookOf
+head-held s o c l m x y =
+    rw (eq-eqb (length o) recordSize l, eq-eqb (length c) recordSize m, x .key, x .day, x .amount, y .day, y .amount)
+
+module _ (f : Form) (b : List ℕ) (k : ℕ) {x n : ℕ} (e : At x n ≡ placeOf f b k) where
+  abbrev ss : List Statement
+  ss = statementsOf july f b
+
+  abbrev s : Statement
+  s = getD ss (k - 1) nothing
+
+  abbrev w : ℕ
+  w = widthOf recordSize f
+
+  in-list : k - 1 < length ss
+  in-list =
+      let g = found f b k e in
+      let o = g .some in
+      omega (arith, g .few)
+
+  -- its first record is its 01
+  first-there : HoldsAt b x (opening (s .key) (s .old-date) (s .old-balance))
+  first-there =
+      let g = found f b k e in
+      let q : drop (recordsBefore (k - 1) ss) (allRecords july2004 ss) ≡ allRecords july2004 (s ∷ drop (suc (k - 1)) ss) =
+      drop-before (k - 1) ss ∙ rw (drop-cons ss (k - 1) nothing in-list) in
+      rw (g .first) (record-there (reads f b (g .yes)) (recordsBefore (k - 1) ss) (q ∙ all-cons july2004 s (drop (suc (k - 1)) ss)))
+
+  -- its last record is its 07
+  last-place : x + n - w ≡ before (reads f b (found f b k e .yes)) (k - 1) in-list (length (s .movements)) * w
+  last-place =
+      let g = found f b k e in
+      let m = sizes (s .movements) in
+      rw (take-all (length (s .movements)) (s .movements) (omega arith), g .first, g .len)
+      (omega (arith, add-mul (recordsBefore (k - 1) ss) (1 + m) w, add-mul m 2 w, add-mul 1 m w))
+
+  last-there : HoldsAt b (x + n - w) (closing (s .key) (s .new-date) (s .new-balance))
+  last-there =
+      let g = found f b k e in
+      let r = reads f b (g .yes) in
+      let i = length (s .movements) in
+      let l = rest r (k - 1) in-list i in
+      let q : drop (before r (k - 1) in-list i) (allRecords july2004 ss) ≡ closing (s .key) (s .new-date) (s .new-balance) ∷ l .0 = l .1 ∙ rw (drop-length (s .movements)) in
+      rw last-place (record-there r (before r (k - 1) in-list i) q)
+
+  pub head-there : headAt (recordAtOf b x) (recordAtOf b (x + n - w)) ≡ headFrom s
+  head-there = head-held s (recordAtOf b x) (recordAtOf b (x + n - w)) (first-there .whole) (last-there .whole) (opened _ (first-there .values)) (closed _ (last-there .values))
+
+  -- its part is accepted with its number of movements
+  pub count-there : movementsIn (checkOf july f (take (x + n - x) (drop x b))) ≡ length (s .movements)
+  unfolding movementsOf
+  count-there = rw (part-cut f b k e, counts (part-alone f b k e)) (add-zero (length (s .movements)))
+
+  -- the whole answer
+  pub headed : {h : Head} {m : ℕ} → h ≡ headAt (recordAtOf b x) (recordAtOf b (x + n - (recordSize + lineEnd f))) → m ≡ movementsIn (checkOf july f (take (x + n - x) (drop x b)))
+      → _≡_ {A = Headed} (record { number = 0; «record» = 0; head = h; movements = m }) (headIn f b k)
+  unfolding headIn widthOf
+  headed p q = rw (p, q, head-there, count-there, ← e)
+
+  -- the line-end number is known
+  pub known-end : lineEnd f ≤ 2
+  known-end = ltb-false 2 (lineEnd f) (reads f b (found f b k e .yes) .line)
+
+  -- the 07 lies in the part
+  pub one-inside : recordSize + lineEnd f ≤ x + n
+  unfolding widthOf
+  one-inside = rw (found f b k e .len) (omega (arith, add-mul (sizes (s .movements)) 2 (recordSize + lineEnd f)))
+
+pub not-headed : (f : Form) (b : List ℕ) (k : ℕ) {n r : ℕ} {h : Head} → Refused n r ≡ placeOf f b k → h ≡ noHead
+    → _≡_ {A = Headed} (record { number = n; «record» = r; head = h; movements = 0 }) (headIn f b k)
+unfolding headIn
+not-headed f b k e p = rw (p, ← e)
+
+-- the count that the check gives
+pub counted : (a : Answer) {s m c : ℕ} → C.Accepted s m c ≡ checkedOf a → m ≡ movementsIn a
+counted (accepted x) e = cc
+counted (refused n r) e = absurd (let z : _≡_ {A = ℕ} 0 1 = cc in omega arith)
+
+pub not-counted : (a : Answer) {n r : ℕ} → C.Refused n r ≡ checkedOf a → 0 ≡ movementsIn a
+not-counted (accepted x) e = absurd (let z : _≡_ {A = ℕ} 0 1 = cc in omega arith)
+not-counted (refused n r) e = refl
