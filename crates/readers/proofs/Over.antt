@@ -1,7 +1,7 @@
 -- The walk over the 05 of a movement: what the loop keeps, and one law for each way out of a turn.
 use mathlib.Core.Path.{_≡_, sym, _∙_}
 use mathlib.Core.Bool.{Bool, true, false}
-use mathlib.Core.List.{List}
+use mathlib.Core.List.{List, [], _∷_}
 use Prim.Native.Nat.{ℕ, _+_, _-_, _*_, _/_, _<_, _≤_}
 use native.Mathlib.Nat.{zero-div, div-add-mod'}
 use native.Mathlib.Omega.{arith}
@@ -9,7 +9,7 @@ use lib.ListN.{length, drop, length-drop}
 use borrow.Author.Tests.{lt-ltb, le-ltb}
 use Rattle.zones.specs.Choice.{pick}
 use Rattle.framing.specs.declared.Form.{Form}
-use Rattle.framing.specs.Files.{lineEnd, widthOf, chunks}
+use Rattle.framing.specs.Files.{lineEnd, unknownEnd, widthOf, chunks, piecesOf}
 use Rattle.records.specs.July.{recordSize, isCode}
 use Rattle.readers.specs.declared.Step.{Step}
 use Rattle.readers.specs.Places.{Fits}
@@ -102,3 +102,27 @@ module _ (b : List ℕ) (f : Form) (at : ℕ) where
           wide = omega arith;
           inside = omega (arith, step-inside, times (recordSize + lineEnd f) ((length b - at) / (recordSize + lineEnd f)) left-some);
         }
+
+-- the place after the 05 is not before the first of them
+over-later : (w n at lo : ℕ) (ps : List (List ℕ)) → lo ≤ at → lo ≤ stepOver w n at ps .next
+unfolding stepOver
+over-later w n at lo [] h = h
+over-later w n at lo (p ∷ ps) h = by (isCode "05" p) (over-later w (n + 1) (at + w) lo ps (omega arith))
+  where
+    by : (t : Bool) → lo ≤ stepOver w (n + 1) (at + w) ps .next → lo ≤ pick t (stepOver w (n + 1) (at + w) ps) (foundStep n at) .next
+    by true g = g
+    by false g = h
+
+-- the step goes on
+pub step-later : (b : List ℕ) (f : Form) (at : ℕ) → at < length b → at < stepOf b f at .next
+unfolding stepOf stepIn widthOf
+step-later b f at h = by (unknownEnd f) (piecesOf recordSize f (drop at b))
+  where
+    here : (t : Bool) (ps : List (List ℕ)) → at < pick t (stepOver (widthOf recordSize f) 0 (at + widthOf recordSize f) ps) (noStep (length b)) .next
+    here true ps = omega (arith, over-later (recordSize + lineEnd f) 0 (at + (recordSize + lineEnd f)) (at + 1) ps (omega arith))
+    here false ps = h
+
+    by : (t : Bool) (ps : List (List ℕ)) → at < pick t (noStep (length b)) (stepIn (widthOf recordSize f) (length b) at ps) .next
+    by true ps = h
+    by false [] = h
+    by false (p ∷ ps) = here (isCode "04" p) ps

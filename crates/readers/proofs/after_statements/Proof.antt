@@ -4,9 +4,6 @@ use Rattle.readers.specs.Places.{endsAfter}
 use Rattle.readers.proofs.Walk.{ends-step, ends-none}
 use Rattle.readers.proofs.after_statements.Statement.{statement}
 use Rattle.readers.proofs.after_statements.Tie as tie
-use Rattle.readers.proofs.after_statements.Reads as reads
-use Rattle.readers.proofs.after_statements.Lts as lts
-use Rattle.readers.proofs.statement_end.Reads as statement-end-reads
 
 abbrev Inv-loop : tie.InvT-loop
 Inv-loop form file skip at₀ left₀ at left = endsAfter form file left at ≡ endsAfter form file skip 0
