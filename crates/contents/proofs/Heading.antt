@@ -35,7 +35,7 @@ use Rattle.readers.proofs.Rows.{drop-before}
 use Rattle.readers.proofs.Movements.{before, rest}
 use Rattle.readers.proofs.Placed.{found, part-cut, part-alone}
 use Rattle.contents.specs.declared.Head.{Head}
-use Rattle.contents.specs.declared.Headed.{Headed}
+use Rattle.contents.specs.declared.HeadAnswer.{HeadAnswer}
 use Rattle.contents.specs.Heads.{recordAtOf, headFrom, noHead, headIn, headAt, movementsIn}
 use Rattle.contents.proofs.Records.{HoldsAt, record-there}
 
@@ -138,7 +138,7 @@ module _ (f : Form) (b : List ℕ) (k : ℕ) {x n : ℕ} (e : At x n ≡ placeOf
 
   -- the whole answer
   pub headed : {h : Head} {m : ℕ} → h ≡ headAt (recordAtOf b x) (recordAtOf b (x + n - (recordSize + lineEnd f))) → m ≡ movementsIn (checkOf july f (take (x + n - x) (drop x b)))
-      → _≡_ {A = Headed} (record { number = 0; «record» = 0; head = h; movements = m }) (headIn f b k)
+      → _≡_ {A = HeadAnswer} (record { number = 0; «record» = 0; head = h; movements = m }) (headIn f b k)
   unfolding headIn widthOf
   headed p q = rw (p, q, head-there, count-there, ← e)
 
@@ -152,7 +152,7 @@ module _ (f : Form) (b : List ℕ) (k : ℕ) {x n : ℕ} (e : At x n ≡ placeOf
   one-inside = rw (found f b k e .len) (omega (arith, add-mul (sizes (s .movements)) 2 (recordSize + lineEnd f)))
 
 pub not-headed : (f : Form) (b : List ℕ) (k : ℕ) {n r : ℕ} {h : Head} → Refused n r ≡ placeOf f b k → h ≡ noHead
-    → _≡_ {A = Headed} (record { number = n; «record» = r; head = h; movements = 0 }) (headIn f b k)
+    → _≡_ {A = HeadAnswer} (record { number = n; «record» = r; head = h; movements = 0 }) (headIn f b k)
 unfolding headIn
 not-headed f b k e p = rw (p, ← e)
 

@@ -1,3 +1,4 @@
 pub mod Records
 pub mod Heading
+pub mod Moving
 pub mod One

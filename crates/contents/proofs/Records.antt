@@ -1,12 +1,15 @@
 -- A record of an accepted file, found at its place.
-use mathlib.Core.Path.{_≡_, sym, ap, _∙_}
+use mathlib.Core.Path.{_≡_, refl, sym, ap, _∙_}
+use mathlib.Core.Bool.{Bool, true, false}
 use mathlib.Core.List.{List, [], _∷_, _++_, append-assoc}
 use Prim.Native.Nat.{ℕ, _+_, _-_, _*_, _<_, _≤_}
 use native.Mathlib.Nat.{add-sub-cancel-left}
 use native.Mathlib.Omega.{arith}
+use lib.Dec.{ltb}
 use lib.ListN.{length, take, drop, length-drop, length-append}
 use lib.Seq.{take-at}
-use borrow.Author.Tests.{lt-ltb, le-ltb}
+use borrow.Author.Tests.{lt-ltb, le-ltb, ltb-false}
+use Rattle.zones.specs.Choice.{pick}
 use Rattle.zones.specs.Pieces.{flat}
 use Rattle.framing.specs.declared.Form.{Form}
 use Rattle.framing.specs.Files.{All, widthOf, endOf}
@@ -36,6 +39,15 @@ cut-out b at h p = rw (add-sub-cancel-left at 120) (sym (rw (le-ltb (length b) (
 pub record HoldsAt (b : List ℕ) (at : ℕ) (x : Rec) : Type 0 where
   pub whole : length (recordAtOf b at) ≡ recordSize
   pub values : decodeRecord (recordAtOf b at) ≡ x
+
+-- a whole record lies in the file
+pub whole-inside : (b : List ℕ) (at : ℕ) → length (recordAtOf b at) ≡ recordSize → at + recordSize ≤ length b
+unfolding recordAtOf
+whole-inside b at e = by (ltb (length b) (at + recordSize)) refl e
+  where
+    by : (t : Bool) → ltb (length b) (at + recordSize) ≡ t → length (pick t [] (take recordSize (drop at b))) ≡ recordSize → at + recordSize ≤ length b
+    by true p g = absurd (omega arith)
+    by false p g = ltb-false (length b) (at + recordSize) p
 
 module _ {f : Form} {b : List ℕ} {ss : List Statement} (r : Reads july f b ss) where
   -- record n, from 0

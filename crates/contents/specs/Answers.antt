@@ -4,12 +4,23 @@ use mathlib.Core.List.{List}
 use Prim.Native.Nat.{ℕ}
 use Rattle.framing.specs.declared.Form.{Form}
 use Rattle.contents.specs.Heads.{recordAtOf, headIn}
-use Rattle.contents.specs.declared.Headed.{Headed}
+use Rattle.contents.specs.Movements.{movementIn, complementIn}
+use Rattle.contents.specs.declared.HeadAnswer.{HeadAnswer}
+use Rattle.contents.specs.declared.MovementAnswer.{MovementAnswer}
+use Rattle.contents.specs.declared.ComplementAnswer.{ComplementAnswer}
 
 -- record_at
 pub record RecordAt (b : List ℕ) (at : ℕ) (r : List ℕ) : Type 0 where
   pub answer : r ≡ recordAtOf b at
 
 -- head_of
-pub record HeadOf (f : Form) (b : List ℕ) (k : ℕ) (r : Headed) : Type 0 where
+pub record HeadOf (f : Form) (b : List ℕ) (k : ℕ) (r : HeadAnswer) : Type 0 where
   pub answer : r ≡ headIn f b k
+
+-- movement_of
+pub record MovementOf (f : Form) (b : List ℕ) (k i : ℕ) (r : MovementAnswer) : Type 0 where
+  pub answer : r ≡ movementIn f b k i
+
+-- complement_of
+pub record ComplementOf (f : Form) (b : List ℕ) (k i j : ℕ) (r : ComplementAnswer) : Type 0 where
+  pub answer : r ≡ complementIn f b k i j

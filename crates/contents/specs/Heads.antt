@@ -17,7 +17,7 @@ use Rattle.readers.specs.Places.{placeOf}
 use Rattle.readers.specs.declared.Place.{Place}
 use Rattle.readers.specs.declared.Place.the-variants.{At, Refused}
 use Rattle.contents.specs.declared.Head.{Head}
-use Rattle.contents.specs.declared.Headed.{Headed}
+use Rattle.contents.specs.declared.HeadAnswer.{HeadAnswer}
 
 -- the record's bytes at a place, none where there are not so many
 unfoldable pub recordAtOf : List ℕ → ℕ → List ℕ
@@ -38,11 +38,11 @@ abbrev pub noHead : Head
 noHead = record { key = noKey; «old_date» = 0; «old_balance» = pos 0; «new_date» = 0; «new_balance» = pos 0 }
 
 -- the head with its movement count; the file's refusals, then 16
-abbrev pub headBy : Place → Statement → Headed
+abbrev pub headBy : Place → Statement → HeadAnswer
 headBy (At first len) s = record { number = 0; «record» = 0; head = headFrom s; movements = length (s .movements) }
 headBy (Refused n r) s = record { number = n; «record» = r; head = noHead; movements = 0 }
 
-unfoldable pub headIn : Form → List ℕ → ℕ → Headed
+unfoldable pub headIn : Form → List ℕ → ℕ → HeadAnswer
 headIn f b k = headBy (placeOf f b k) (getD (statementsOf july f b) (k - 1) nothing)
 
 -- the head that two records hold

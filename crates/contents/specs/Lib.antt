@@ -1,2 +1,3 @@
 pub mod Heads
+pub mod Movements
 pub mod Answers

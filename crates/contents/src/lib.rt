@@ -1,9 +1,13 @@
-// What a statement of a file holds: its head, by value.
+// What a statement of a file holds, by value: its head, one of its movements, one of their complements.
 ghost use mathlib.Core.Path.{_≡_};
-ghost use Rattle.grammar.specs.Files.{checkOf};
+ghost use mathlib.Core.List.{_∷_, []};
+ghost use Rattle.grammar.specs.Statements.{Statement};
+ghost use Rattle.grammar.specs.Files.{Reads, checkOf};
 ghost use Rattle.records.specs.July.{july};
 ghost use Rattle.contents.specs.Heads.{noHead, headAt, movementsIn};
-ghost use Rattle.contents.specs.Answers.{RecordAt, HeadOf};
+ghost use Rattle.contents.specs.Movements.{Single, stepsAfter, movementPlace, movementAmong, complementAmong, refusedComplement};
+ghost use Rattle.contents.specs.Answers.{RecordAt, HeadOf, MovementOf, ComplementOf};
+use fields::Movement;
 use framing::Form;
 use grammar::Key;
 use readers::Place;
@@ -20,11 +24,25 @@ pub struct Head {
 }
 
 // A head with its number of movements; or, with a refusal's number and record, zeros.
-pub struct Headed {
+pub struct HeadAnswer {
     pub number: u64,
     pub record: u64,
     pub head: Head,
     pub movements: u64,
+}
+
+// A movement; or, with a refusal's number and record, zeros.
+pub struct MovementAnswer {
+    pub number: u64,
+    pub record: u64,
+    pub movement: Movement,
+}
+
+// A complement's bytes 46-118; or, with a refusal's number and record, zeros.
+pub struct ComplementAnswer {
+    pub number: u64,
+    pub record: u64,
+    pub text: [u8; 73],
 }
 
 // The 120 bytes at a place. None where there are not so many.
@@ -92,7 +110,7 @@ fn movements_in(form: Form, part: &[u8]) -> u64
 }
 
 // The head of statement k. The whole file is judged first.
-pub fn head_of(form: Form, file: &[u8], k: u64) -> Headed
+pub fn head_of(form: Form, file: &[u8], k: u64) -> HeadAnswer
     ensures { λ h. ⌜ HeadOf form (now (file .entry)) k h ⌝ }
 {
     match readers::statement_place(form, file, k) {
@@ -100,18 +118,130 @@ pub fn head_of(form: Form, file: &[u8], k: u64) -> Headed
             let end = first + len;
             let width = 120 + form.line_end as usize;
             let last = end - width;
-            Headed {
+            HeadAnswer {
                 number: 0,
                 record: 0,
                 head: head_at(record_at(file, first), record_at(file, last)),
                 movements: movements_in(form, &file[first..end]),
             }
         }
-        Place::Refused { number, record } => Headed {
+        Place::Refused { number, record } => HeadAnswer {
             number,
             record,
             head: no_head(),
             movements: 0,
         },
+    }
+}
+
+// The place after so many movements.
+fn after_movements(form: Form, part: &[u8], start: usize, skip: u64) -> usize
+    ensures { λ r. ⌜ r ≡ stepsAfter form (now (part .entry)) skip start ⌝ }
+{
+    let mut at = start;
+    let mut left = skip;
+    while 0 < left {
+        let step = readers::movement_step(part, form, at);
+        at = step.next;
+        left -= 1;
+    }
+    at
+}
+
+// The place of movement i in a statement's part. 0, where the 01 stands, for none.
+fn movement_place(form: Form, part: &[u8], i: u64) -> usize
+    requires { ⌜ Single form (now part) ⌝ }
+    ensures { λ r. ⌜ r ≡ movementPlace form (now (part .entry)) i ⌝ }
+{
+    if i == 0 {
+        return 0;
+    }
+    if movements_in(form, part) < i {
+        return 0;
+    }
+    let width = 120 + form.line_end as usize;
+    after_movements(form, part, width, i - 1)
+}
+
+fn movement_in(form: Form, part: &[u8], i: u64) -> MovementAnswer
+    requires { ⌜ Single form (now part) ⌝ }
+    ensures { λ r. ⌜ ((s : Statement) → Reads july form (now (part .entry)) (s ∷ []) → r ≡ movementAmong (s .movements) i) ⌝ }
+{
+    let at = movement_place(form, part, i);
+    if at == 0 {
+        return MovementAnswer {
+            number: 17,
+            record: 0,
+            movement: fields::row_at(&part[..0], 0),
+        };
+    }
+    let step = readers::movement_step(part, form, at);
+    MovementAnswer {
+        number: 0,
+        record: 0,
+        movement: fields::row_at(record_at(part, at), step.complements),
+    }
+}
+
+// Movement i of statement k. The whole file is judged first.
+pub fn movement_of(form: Form, file: &[u8], k: u64, i: u64) -> MovementAnswer
+    ensures { λ r. ⌜ MovementOf form (now (file .entry)) k i r ⌝ }
+{
+    match readers::statement_place(form, file, k) {
+        Place::At { first, len } => {
+            let end = first + len;
+            movement_in(form, &file[first..end], i)
+        }
+        Place::Refused { number, record } => MovementAnswer {
+            number,
+            record,
+            movement: fields::row_at(&file[..0], 0),
+        },
+    }
+}
+
+fn no_complement(number: u64, at: u64) -> ComplementAnswer
+    ensures { λ r. ⌜ r ≡ refusedComplement number at ⌝ }
+{
+    ComplementAnswer {
+        number,
+        record: at,
+        text: [0u8; 73],
+    }
+}
+
+fn complement_in(form: Form, part: &[u8], i: u64, j: u64) -> ComplementAnswer
+    requires { ⌜ Single form (now part) ⌝ }
+    ensures { λ r. ⌜ ((s : Statement) → Reads july form (now (part .entry)) (s ∷ []) → r ≡ complementAmong (s .movements) i j) ⌝ }
+{
+    let at = movement_place(form, part, i);
+    if at == 0 {
+        return no_complement(17, 0);
+    }
+    let step = readers::movement_step(part, form, at);
+    if (j == 0) | (step.complements < j) {
+        return no_complement(17, 0);
+    }
+    let width = 120 + form.line_end as usize;
+    let r = record_at(part, at + j as usize * width);
+    let mut text = [0u8; 73];
+    zones::put(&mut text, &r[45..118]);
+    ComplementAnswer {
+        number: 0,
+        record: 0,
+        text,
+    }
+}
+
+// Complement j of movement i of statement k. The whole file is judged first.
+pub fn complement_of(form: Form, file: &[u8], k: u64, i: u64, j: u64) -> ComplementAnswer
+    ensures { λ r. ⌜ ComplementOf form (now (file .entry)) k i j r ⌝ }
+{
+    match readers::statement_place(form, file, k) {
+        Place::At { first, len } => {
+            let end = first + len;
+            complement_in(form, &file[first..end], i, j)
+        }
+        Place::Refused { number, record } => no_complement(number, record),
     }
 }
