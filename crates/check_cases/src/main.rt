@@ -1,4 +1,5 @@
 // The check run on kept files, and on large ones made here. `stdout` has what the independent implementation answered on the same files.
+ghost use Prim.Native.Nat.{_≤_};
 use framing::Form;
 use libc::STDOUT_FILENO;
 use statements::Checked;
