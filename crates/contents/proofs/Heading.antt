@@ -19,6 +19,7 @@ use Rattle.grammar.specs.Record.{opening, closing}
 use Rattle.grammar.specs.Statements.{Statement, sizes, allRecords, movementsOf}
 use Rattle.grammar.specs.Files.{statementsOf, checkOf}
 use Rattle.grammar.specs.Parts.{recordsBefore, nothing}
+use Rattle.grammar.proofs.Parts.{drop-before}
 use Rattle.grammar.proofs.Rows.{all-cons}
 use Rattle.records.specs.July.{recordSize, july, july2004, keyIn, dateIn, amountIn, decodeRecord}
 use Rattle.records.specs.declared.Look.{Look}
@@ -31,7 +32,6 @@ use Rattle.statements.proofs.Judging.{look-small}
 use Rattle.statements.proofs.Modes.{View, one, four, five, seven, view}
 use Rattle.readers.specs.declared.Place.the-variants.{At, Refused}
 use Rattle.readers.specs.Places.{placeOf}
-use Rattle.readers.proofs.Rows.{drop-before}
 use Rattle.readers.proofs.Movements.{before, rest}
 use Rattle.readers.proofs.Placed.{found, part-cut, part-alone}
 use Rattle.contents.specs.declared.Head.{Head}
@@ -108,7 +108,7 @@ module _ (f : Form) (b : List ℕ) (k : ℕ) {x n : ℕ} (e : At x n ≡ placeOf
   first-there =
       let g = found f b k e in
       let q : drop (recordsBefore (k - 1) ss) (allRecords july2004 ss) ≡ allRecords july2004 (s ∷ drop (suc (k - 1)) ss) =
-      drop-before (k - 1) ss ∙ rw (drop-cons ss (k - 1) nothing in-list) in
+      drop-before july2004 (k - 1) ss ∙ rw (drop-cons ss (k - 1) nothing in-list) in
       rw (g .first) (record-there (reads f b (g .yes)) (recordsBefore (k - 1) ss) (q ∙ all-cons july2004 s (drop (suc (k - 1)) ss)))
 
   -- its last record is its 07

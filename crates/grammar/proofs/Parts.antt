@@ -22,7 +22,7 @@ use Rattle.grammar.proofs.Trips.{one-records}
 
 module _ {A : Type 0} (P : A → Type 0) where
   -- what holds of all holds of the last ones
-  all-drop : (n : ℕ) (xs : List A) → All P xs → All P (drop n xs)
+  pub all-drop : (n : ℕ) (xs : List A) → All P xs → All P (drop n xs)
   all-drop zero xs h = h
   all-drop (suc n) [] h = tt
   all-drop (suc n) (x ∷ xs) h = all-drop n xs (h .1)
@@ -35,7 +35,7 @@ module _ {A : Type 0} (P : A → Type 0) where
 
 module _ {A B : Type 0} (f : A → B) where
   -- the last ones mapped
-  map-drop : (n : ℕ) (xs : List A) → drop n (map f xs) ≡ map f (drop n xs)
+  pub map-drop : (n : ℕ) (xs : List A) → drop n (map f xs) ≡ map f (drop n xs)
   map-drop zero xs = refl
   map-drop (suc n) [] = refl
   map-drop (suc n) (x ∷ xs) = map-drop n xs
@@ -67,7 +67,7 @@ module _ (E : Edition) where
       ∙ omega (arith, length-moves (s .key) (s .movements) (closing (s .key) (s .new-date) (s .new-balance) ∷ []))
 
   -- behind the records of j statements stand those of the others
-  drop-before : (j : ℕ) (ss : List Statement) → drop (recordsBefore j ss) (allRecords E ss) ≡ allRecords E (drop j ss)
+  pub drop-before : (j : ℕ) (ss : List Statement) → drop (recordsBefore j ss) (allRecords E ss) ≡ allRecords E (drop j ss)
   unfolding recordsBefore allRecords
   drop-before zero ss = refl
   drop-before (suc j) [] = refl

@@ -14,12 +14,13 @@ use Rattle.grammar.specs.Record.{Rec, isClosing}
 use Rattle.grammar.specs.Statements.{Movement, Statement, sizes, allRecords}
 use Rattle.grammar.specs.Files.{Reads}
 use Rattle.grammar.specs.Parts.{sizeOf, recordsBefore, nothing}
+use Rattle.grammar.proofs.Parts.{drop-before}
 use Rattle.grammar.proofs.Rows.{addsThen, movesThen, all-cons}
 use Rattle.grammar.proofs.Seam.{piecesFor}
 use Rattle.records.specs.July.{recordSize, repeats, Holds, july, july2004}
 use Rattle.readers.specs.Places.{endIn, endAfter}
 use Rattle.readers.proofs.Codes.{told}
-use Rattle.readers.proofs.Rows.{drop-before, before-next, ok-from, pieces-from}
+use Rattle.readers.proofs.Rows.{before-next, ok-from, pieces-from}
 
 -- the walk over records as values
 module _ (w end : ℕ) where
@@ -65,5 +66,5 @@ module _ {f : Form} {b : List ℕ} {ss : List Statement} (r : Reads july f b ss)
       let rs = drop m (allRecords july2004 ss) in
       let s = getD ss j nothing in
       let z : endAmong w (length b) (m * w) rs ≡ m * w + sizeOf s * w =
-      rw (drop-before j ss, drop-cons ss j nothing h) (end-one w (length b) s (drop (suc j) ss) (m * w)) in
+      rw (drop-before july2004 j ss, drop-cons ss j nothing h) (end-one w (length b) s (drop (suc j) ss) (m * w)) in
       rw (r .line, pieces-from r m) (end-pieces w (length b) f rs (ok-from r m) (m * w) ∙ z ∙ rw (before-next j ss h) (sym (add-mul m (sizeOf s) w)))

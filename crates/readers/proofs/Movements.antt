@@ -16,13 +16,14 @@ use Rattle.grammar.specs.Record.{Rec, movement, closing, isMovement, isCompleme
 use Rattle.grammar.specs.Statements.{Movement, Statement, sizes, allRecords}
 use Rattle.grammar.specs.Files.{Reads}
 use Rattle.grammar.specs.Parts.{recordsBefore, nothing}
+use Rattle.grammar.proofs.Parts.{drop-before}
 use Rattle.grammar.proofs.Rows.{addsThen, movesThen, all-cons}
 use Rattle.grammar.proofs.Seam.{piecesFor}
 use Rattle.records.specs.July.{recordSize, repeats, Holds, july, july2004}
 use Rattle.readers.specs.declared.Step.{Step}
 use Rattle.readers.specs.Steps.{foundStep, noStep, stepOver, stepIn, stepOf}
 use Rattle.readers.proofs.Codes.{told}
-use Rattle.readers.proofs.Rows.{drop-adds, drop-before, ok-from, pieces-from}
+use Rattle.readers.proofs.Rows.{drop-adds, ok-from, pieces-from}
 
 -- the walk over records as values
 module _ (w : ℕ) where
@@ -96,7 +97,7 @@ module _ {f : Form} {b : List ℕ} {ss : List Statement} (r : Reads july f b ss)
       let q : 1 + n ≡ suc n = omega arith in (
         allRecords july2004 (drop (suc j) ss),
         sym (drop-drop (1 + n) (recordsBefore j ss) (allRecords july2004 ss))
-            ∙ rw (drop-before j ss, drop-cons ss j nothing h, all-cons july2004 s (drop (suc j) ss), q) (drop-moves (s .key) i (s .movements) _),
+            ∙ rw (drop-before july2004 j ss, drop-cons ss j nothing h, all-cons july2004 s (drop (suc j) ss), q) (drop-moves (s .key) i (s .movements) _),
       )
 
   -- the step there is the step among these records

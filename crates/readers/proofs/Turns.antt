@@ -12,11 +12,12 @@ use Rattle.framing.specs.Files.{widthOf}
 use Rattle.grammar.specs.Statements.{Statement, allRecords}
 use Rattle.grammar.specs.Files.{Reads, statementsOf}
 use Rattle.grammar.specs.Parts.{sizeOf, recordsBefore, nothing, partOf}
+use Rattle.grammar.proofs.Parts.{drop-before}
 use Rattle.grammar.proofs.Seam.{piecesFor}
 use Rattle.records.specs.July.{recordSize, july, july2004}
 use Rattle.records.proofs.Theorems.{counts, reads, unique}
 use Rattle.readers.specs.Places.{endAfter}
-use Rattle.readers.proofs.Rows.{some, drop-before, before-next, from-record}
+use Rattle.readers.proofs.Rows.{some, before-next, from-record}
 use Rattle.readers.proofs.Cursor.{cursor}
 use Rattle.readers.proofs.Placed.{before-inside}
 
@@ -39,7 +40,7 @@ module _ {f : Form} {b : List ℕ} {ss : List Statement} (r : Reads july f b ss)
   after-last =
       let m = recordsBefore (length ss) ss * widthOf recordSize f in
       let e : length (drop m b) ≡ 0 =
-      ap length (from-record r (recordsBefore (length ss) ss) ∙ ap (λ l. flat (piecesFor july f l)) (drop-before (length ss) ss ∙ ap (allRecords july2004) (drop-length ss))) in
+      ap length (from-record r (recordsBefore (length ss) ss) ∙ ap (λ l. flat (piecesFor july f l)) (drop-before july2004 (length ss) ss ∙ ap (allRecords july2004) (drop-length ss))) in
       omega (arith, e, length-drop m b, before-inside r (length ss) (omega arith))
 
   -- what lies between the two places is statement j + 1

@@ -1,5 +1,7 @@
 //! Values, the records this test writes from them with its own code, and the values read back.
 
+mod outcomes;
+
 use oracle::check::{check, Answer};
 use oracle::damage::{giants, recipes};
 use oracle::listing::{listing, MOST_BYTES};
@@ -11,6 +13,7 @@ use oracle::read::{
 use oracle::rng::Rng;
 use oracle::valid::small_file;
 use oracle::write::{damaged_case, valid_case};
+use outcomes::outcomes;
 
 const MOST: i128 = 99_999_999_999_999;
 
@@ -130,17 +133,6 @@ fn listing_cases_get_the_output_they_expect() {
 
 fn refused<T>(number: u32) -> Result<T, Refusal> {
     Err(Refusal { number, record: 0 })
-}
-
-/// What each of the four readers answers, without its values.
-fn outcomes(line_end: u64, file: &[u8], numbers: [u64; 3]) -> [Result<(), Refusal>; 4] {
-    let [k, m, c] = numbers;
-    [
-        place(line_end, file, k).map(|_| ()),
-        head(line_end, file, k).map(|_| ()),
-        movement(line_end, file, k, m).map(|_| ()),
-        complement(line_end, file, k, m, c).map(|_| ()),
-    ]
 }
 
 // Values at random. Their bytes are leaked, so that they need no owner.

@@ -3,6 +3,8 @@
 mod command;
 mod common;
 mod listing;
+#[path = "../outcomes/mod.rs"]
+mod outcomes;
 mod readers;
 mod readings;
 mod worked;

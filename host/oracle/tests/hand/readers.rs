@@ -3,6 +3,7 @@
 use crate::common::{
     accepted, balance, empty_statement, movement as plain_movement, with_complements, worked, Sheet,
 };
+use crate::outcomes::outcomes;
 use oracle::check::check;
 use oracle::read::{complement, head, movement, place, Head, Key, Place, Refusal, Row};
 use oracle::show::{complement_line, head_line, line, place_line, readings, row_line};
@@ -37,17 +38,6 @@ fn full() -> Sheet {
 /// Three statements of 7, 2 and 4 records.
 fn three() -> Sheet {
     with_complements().then(empty_statement()).then(worked())
-}
-
-/// What each of the four readers answers, without its values.
-fn outcomes(line_end: u64, file: &[u8], numbers: [u64; 3]) -> [Result<(), Refusal>; 4] {
-    let [k, m, c] = numbers;
-    [
-        place(line_end, file, k).map(|_| ()),
-        head(line_end, file, k).map(|_| ()),
-        movement(line_end, file, k, m).map(|_| ()),
-        complement(line_end, file, k, m, c).map(|_| ()),
-    ]
 }
 
 /// The head of the worked statement.
