@@ -40,12 +40,12 @@ use Rattle.contents.specs.Heads.{recordAtOf, headFrom, noHead, headIn, h
 use Rattle.contents.proofs.Records.{HoldsAt, record-there}
 
 -- the values of a balance
-record Balance (b : List ℕ) (k : Key) (d : ℕ) (a : ℤ) : Type 0 where
-  key : keyIn b ≡ k
-  day : dateIn b ≡ d
-  amount : amountIn b ≡ a
+pub record Balance (b : List ℕ) (k : Key) (d : ℕ) (a : ℤ) : Type 0 where
+  pub key : keyIn b ≡ k
+  pub day : dateIn b ≡ d
+  pub amount : amountIn b ≡ a
 
-opened : (b : List ℕ) {k : Key} {d : ℕ} {a : ℤ} → decodeRecord b ≡ opening k d a → Balance b k d a
+pub opened : (b : List ℕ) {k : Key} {d : ℕ} {a : ℤ} → decodeRecord b ≡ opening k d a → Balance b k d a
 opened b {k} {d} {a} e = by (view b)
   where
     by : View b → Balance b k d a
@@ -54,7 +54,7 @@ opened b {k} {d} {a} e = by (view b)
     by (five q p) = absurd (let g = sym p ∙ e in let z : _≡_ {A = ℕ} 0 1 = cc in omega arith)
     by (seven q p) = absurd (let g = sym p ∙ e in let z : _≡_ {A = ℕ} 0 1 = cc in omega arith)
 
-closed : (b : List ℕ) {k : Key} {d : ℕ} {a : ℤ} → decodeRecord b ≡ closing k d a → Balance b k d a
+pub closed : (b : List ℕ) {k : Key} {d : ℕ} {a : ℤ} → decodeRecord b ≡ closing k d a → Balance b k d a
 closed b {k} {d} {a} e = by (view b)
   where
     by : View b → Balance b k d a

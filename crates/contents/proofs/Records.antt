@@ -50,16 +50,25 @@ whole-inside b at e = by (ltb (length b) (at + recordSize)) refl e
     by false p g = ltb-false (length b) (at + recordSize) p
 
 module _ {f : Form} {b : List ℕ} {ss : List Statement} (r : Reads july f b ss) where
-  -- record n, from 0
-  pub record-there : (n : ℕ) {x : Rec} {l : List Rec} → drop n (allRecords july2004 ss) ≡ x ∷ l → HoldsAt b (n * widthOf recordSize f) x
+  -- what it can hold
+  holds-there : (n : ℕ) {x : Rec} {l : List Rec} → drop n (allRecords july2004 ss) ≡ x ∷ l → Holds x
+  holds-there n {x} {l} e = let o : All Holds (x ∷ l) = rw e at (ok-from r n) in o .0
+
+  -- record n, from 0, as it is written
+  pub record-written : (n : ℕ) {x : Rec} {l : List Rec} → drop n (allRecords july2004 ss) ≡ x ∷ l → recordAtOf b (n * widthOf recordSize f) ≡ encodeRecord x
   unfolding recordAtOf flat
-  record-there n {x} {l} e =
+  record-written n {x} {l} e =
       let at = n * widthOf recordSize f in
       let c = encodeRecord x in
       let t = endOf f ++ flat (piecesFor july f l) in
-      let o : All Holds (x ∷ l) = rw e at (ok-from r n) in
       let q : drop at b ≡ c ++ t = from-record r n ∙ rw e (append-assoc c (endOf f) (flat (piecesFor july f l))) in
-      let z : length c ≡ recordSize = july-lawful .wide x (o .0) in
+      let z : length c ≡ recordSize = july-lawful .wide x (holds-there n e) in
       let i : length (drop at b) ≡ length c + length t = ap length q ∙ length-append c t in
-      let u : recordAtOf b at ≡ c = rw (le-ltb (length b) (at + recordSize) (omega (arith, length-drop at b))) (ap (take recordSize) q ∙ take-at c t recordSize z) in
-      record { whole = ap length u ∙ z; values = ap decodeRecord u ∙ july-lawful .same x (o .0) }
+      rw (le-ltb (length b) (at + recordSize) (omega (arith, length-drop at b))) (ap (take recordSize) q ∙ take-at c t recordSize z)
+
+  -- its values
+  pub record-there : (n : ℕ) {x : Rec} {l : List Rec} → drop n (allRecords july2004 ss) ≡ x ∷ l → HoldsAt b (n * widthOf recordSize f) x
+  record-there n {x} e =
+      let u = record-written n e in
+      let o = holds-there n e in
+      record { whole = ap length u ∙ july-lawful .wide x o; values = ap decodeRecord u ∙ july-lawful .same x o }

@@ -60,7 +60,7 @@ module _ (E : Edition) where
       omega (arith, length-adds (E .repeats k (m .posting)) (m .complements) (movesThen E k ms l), length-moves k ms l)
 
   -- the number of records of a statement
-  length-one : (s : Statement) → length (recordsOf E s) ≡ sizeOf s
+  pub length-one : (s : Statement) → length (recordsOf E s) ≡ sizeOf s
   unfolding allRecords
   length-one s =
       ap length (sym (one-records E s) ∙ all-cons E s [])

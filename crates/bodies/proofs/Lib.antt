@@ -1,0 +1,5 @@
+pub mod Compared
+pub mod Single
+pub mod Ends
+pub mod Identical
+pub mod One
