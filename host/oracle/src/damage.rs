@@ -175,7 +175,7 @@ fn movement_end(draft: &Draft, index: usize) -> usize {
 }
 
 /// Another byte of the same class: digit, capital, or any permitted byte.
-fn other_byte(rng: &mut Rng, byte: u8) -> u8 {
+pub fn other_byte(rng: &mut Rng, byte: u8) -> u8 {
     loop {
         let other = match byte {
             b'0'..=b'9' => rng.byte(b'0', b'9'),

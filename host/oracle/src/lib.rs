@@ -1,15 +1,21 @@
-//! An independent check and reader of bank-statement files, with seeded generators of test files.
+//! An independent check and reader of bank-statement files and a journal of them, with seeded
+//! generators of test files.
 //!
-//! Written from the paper's rules alone. `check` holds the rules, `read` and `listing` stand on
-//! it; everything else makes files to try them on and never calls a rule of `check`.
+//! Written from the paper's rules alone. `check` holds the rules of a file, `journal` and
+//! `delivery` those of the journal; `read`, `listing` and `series` stand on them. Everything else
+//! makes files and series to try them on, and what it makes does not hang on a rule.
 
 pub mod check;
 pub mod damage;
+pub mod delivery;
+pub mod journal;
 pub mod listing;
 pub mod listing_cases;
 pub mod read;
 pub mod record;
 pub mod rng;
+pub mod series;
+pub mod series_cases;
 pub mod show;
 pub mod valid;
 pub mod write;

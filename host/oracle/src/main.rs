@@ -1,4 +1,4 @@
-//! The command over the check, the readers and the generators.
+//! The command over the check, the readers, the journal and the generators.
 
 use std::io::{self, Error, Read, Write};
 use std::path::Path;
@@ -9,6 +9,8 @@ use oracle::check::check;
 use oracle::listing::listing;
 use oracle::listing_cases::listings;
 use oracle::read::{complement, head, movement, place};
+use oracle::series;
+use oracle::series_cases::{big_series, kept_series};
 use oracle::show::{complement_line, head_line, line, place_line, readings, row_line};
 use oracle::write::{answer_text, big, corpus, kept};
 
@@ -24,6 +26,13 @@ const USAGE: &str = "usage:
   oracle kept SEED COUNT DIR
   oracle big DIR
   oracle listings SEED COUNT DIR
+  oracle series FILE
+      runs the operations on a journal that FILE holds, prints a line for each but the pokes
+  oracle series-kept SEED COUNT DIR
+      writes COUNT series as DIR/001.series .., prints the lines of their runs one after another;
+      names, bytes and kinds on standard error
+  oracle series-big DIR
+      the same with the large series
   oracle time FILE LINE_END TIMES";
 
 fn main() -> ExitCode {
@@ -57,7 +66,24 @@ fn run(arguments: &[&str]) -> io::Result<()> {
         ["time", file, line_end, times] => {
             print_lines(&[time(file, number(line_end)?, number(times)?)?])
         }
+        ["series", ..] | ["series-kept", ..] | ["series-big", ..] => run_series(arguments),
         _ => run_reader(arguments),
+    }
+}
+
+/// Series of operations on a journal.
+fn run_series(arguments: &[&str]) -> io::Result<()> {
+    match arguments {
+        ["series", file] => {
+            let series = std::fs::read(file)?;
+            print_lines(&series::run(&series).map_err(Error::other)?)
+        }
+        ["series-kept", seed, count, directory] => {
+            let count = number(count)? as usize;
+            print_lines(&kept_series(number(seed)?, count, Path::new(directory))?)
+        }
+        ["series-big", directory] => print_lines(&big_series(Path::new(directory))?),
+        _ => Err(Error::other(USAGE)),
     }
 }
 

@@ -24,11 +24,50 @@ impl Draft {
 /// The account key; an account has one in all its records.
 #[derive(Clone)]
 pub struct Key {
-    bank: Vec<u8>,
-    branch: Vec<u8>,
-    currency: Vec<u8>,
-    decimals: Vec<u8>,
-    account: Vec<u8>,
+    pub bank: Vec<u8>,
+    pub branch: Vec<u8>,
+    pub currency: Vec<u8>,
+    pub decimals: Vec<u8>,
+    pub account: Vec<u8>,
+}
+
+impl Key {
+    /// The 25 bytes with which a journal's entry begins.
+    pub fn bytes(&self) -> Vec<u8> {
+        [
+            &self.bank[..],
+            &self.branch,
+            &self.currency,
+            &self.decimals,
+            &self.account,
+        ]
+        .concat()
+    }
+
+    /// Puts the key into a record.
+    pub fn put_into(&self, record: &mut [u8]) {
+        put(record, 3, &self.bank);
+        put(record, 12, &self.branch);
+        put(record, 17, &self.currency);
+        put(record, 20, &self.decimals);
+        put(record, 22, &self.account);
+    }
+}
+
+/// A day and the balance on it.
+#[derive(Clone, Copy)]
+pub struct Balance {
+    pub day: u64,
+    pub value: i64,
+}
+
+/// One statement as records without line ends, with its two balances.
+#[derive(Clone)]
+pub struct Statement {
+    pub key: Key,
+    pub old: Balance,
+    pub new: Balance,
+    pub records: Vec<Vec<u8>>,
 }
 
 /// A line-end number, a size, and a file of them.
@@ -75,6 +114,56 @@ pub fn one_statement(rng: &mut Rng, line_end: u64, records: usize) -> Draft {
     draft
 }
 
+/// A statement of exactly so many records, 2 or more, that begins with a given balance.
+pub fn statement(
+    rng: &mut Rng,
+    key: &Key,
+    old: Balance,
+    new_day: u64,
+    records: usize,
+) -> Statement {
+    let mut draft = Draft {
+        line_end: 0,
+        lines: Vec::with_capacity(records),
+    };
+    let new = add_period(rng, &mut draft, key, old, new_day, records);
+    Statement {
+        key: key.clone(),
+        old,
+        new,
+        records: draft.lines,
+    }
+}
+
+/// A statement with given movements, each an amount and a number of complements.
+pub fn statement_of(
+    rng: &mut Rng,
+    key: &Key,
+    old: Balance,
+    new_day: u64,
+    movements: &[(i64, usize)],
+) -> Statement {
+    let mut draft = Draft {
+        line_end: 0,
+        lines: vec![balance(b"01", key, old)],
+    };
+    let mut new = Balance {
+        day: new_day,
+        value: old.value,
+    };
+    for &(value, complements) in movements {
+        new.value += value;
+        add_movement(rng, &mut draft, key, (old.day, new_day), value, complements);
+    }
+    draft.lines.push(balance(b"07", key, new));
+    Statement {
+        key: key.clone(),
+        old,
+        new,
+        records: draft.lines,
+    }
+}
+
 /// From 2 to 9,999 records, never leaving a single one over.
 fn statement_size(rng: &mut Rng, left: usize) -> usize {
     let most = left.min(9_999);
@@ -110,7 +199,8 @@ fn keys(rng: &mut Rng) -> Vec<Key> {
     keys
 }
 
-fn key(rng: &mut Rng) -> Key {
+/// Any key.
+pub fn key(rng: &mut Rng) -> Key {
     Key {
         bank: digits(rng, 5),
         branch: digits(rng, 5),
@@ -126,24 +216,51 @@ fn key(rng: &mut Rng) -> Key {
 
 /// Adds a statement of exactly so many records, 2 or more.
 fn add_statement(rng: &mut Rng, draft: &mut Draft, key: &Key, size: usize) {
-    let old = rng.below(DAYS);
-    let new = new_day(rng, old);
-    let mut sum = amount(rng);
-    let head = balance(b"01", key, old, sum);
-    draft.lines.push(draft.line(&head));
+    let day = rng.below(DAYS);
+    let new_day = new_day(rng, day);
+    let value = amount(rng);
+    add_period(rng, draft, key, Balance { day, value }, new_day, size);
+}
+
+/// Adds a statement that begins with a given balance. Gives the new one.
+fn add_period(
+    rng: &mut Rng,
+    draft: &mut Draft,
+    key: &Key,
+    old: Balance,
+    new_day: u64,
+    size: usize,
+) -> Balance {
+    let mut new = Balance {
+        day: new_day,
+        value: old.value,
+    };
+    draft.lines.push(draft.line(&balance(b"01", key, old)));
     let mut left = size - 2;
     while left > 0 {
         let complements = complement_count(rng, left - 1);
         left -= 1 + complements;
-        let value = next_amount(rng, sum, left > 0);
-        sum += value;
-        let booking = booking_day(rng, old, new);
-        let movement = movement(rng, key, booking, value);
-        draft.lines.push(draft.line(&movement));
-        add_complements(rng, draft, &movement, complements);
+        let value = next_amount(rng, new.value, left > 0);
+        new.value += value;
+        add_movement(rng, draft, key, (old.day, new_day), value, complements);
     }
-    let tail = balance(b"07", key, new, sum);
-    draft.lines.push(draft.line(&tail));
+    draft.lines.push(draft.line(&balance(b"07", key, new)));
+    new
+}
+
+/// Adds a 04 booked from the first to the last day of the period, and its complements.
+fn add_movement(
+    rng: &mut Rng,
+    draft: &mut Draft,
+    key: &Key,
+    (first, last): (u64, u64),
+    value: i64,
+    complements: usize,
+) {
+    let booking = booking_day(rng, first, last);
+    let movement = movement(rng, key, booking, value);
+    draft.lines.push(draft.line(&movement));
+    add_complements(rng, draft, &movement, complements);
 }
 
 /// The new balance date: the same day, days, a month, years later.
@@ -221,9 +338,9 @@ fn add_complements(rng: &mut Rng, draft: &mut Draft, movement: &[u8], count: usi
 }
 
 /// An 01 or 07.
-fn balance(code: &[u8], key: &Key, day: u64, value: i64) -> Vec<u8> {
-    let mut record = blank_record(code, key, day);
-    put(&mut record, 91, &write_amount(value));
+fn balance(code: &[u8], key: &Key, at: Balance) -> Vec<u8> {
+    let mut record = blank_record(code, key, at.day);
+    put(&mut record, 91, &write_amount(at.value));
     record
 }
 
@@ -292,11 +409,7 @@ fn complement_of(movement: &[u8], qualifier: &[u8], information: &[u8]) -> Vec<u
 fn blank_record(code: &[u8], key: &Key, day: u64) -> Vec<u8> {
     let mut record = vec![b' '; RECORD];
     put(&mut record, 1, code);
-    put(&mut record, 3, &key.bank);
-    put(&mut record, 12, &key.branch);
-    put(&mut record, 17, &key.currency);
-    put(&mut record, 20, &key.decimals);
-    put(&mut record, 22, &key.account);
+    key.put_into(&mut record);
     put(&mut record, 35, &write_date(day));
     record
 }

@@ -122,7 +122,8 @@ pub fn one_of_each_family<'a>(rng: &mut Rng, list: &'a [Recipe]) -> Vec<&'a Reci
         .collect()
 }
 
-fn shuffle<T>(rng: &mut Rng, items: &mut [T]) {
+/// Puts items in any order.
+pub fn shuffle<T>(rng: &mut Rng, items: &mut [T]) {
     for last in (1..items.len()).rev() {
         items.swap(last, rng.index(last + 1));
     }
@@ -140,7 +141,7 @@ fn small_valid_case(rng: &mut Rng, number: usize) -> Case {
 }
 
 /// Nothing for a damage that needs a larger file.
-fn small_damaged_case(rng: &mut Rng, recipe: &Recipe, number: usize) -> Option<Case> {
+pub fn small_damaged_case(rng: &mut Rng, recipe: &Recipe, number: usize) -> Option<Case> {
     const TRIES: usize = 200;
     for attempt in 0..TRIES {
         let line_end = (number + attempt) as u64 % 3;

@@ -1,4 +1,4 @@
-//! The commands over the readers and the listing, run as programs.
+//! The commands over the readers, the listing and the series, run as programs.
 
 use std::io::Write;
 use std::path::PathBuf;
@@ -67,14 +67,54 @@ fn reader_commands() {
     }
 }
 
+/// A series prints its lines; a malformed one prints nothing, ends with 2 and says why.
+#[test]
+fn series_command() {
+    let path = PathBuf::from(env!("CARGO_TARGET_TMPDIR")).join("hand.series");
+    let series = b"J 0000000000000000002 00000000\n\
+                   P 0000000000000000001 00000255\n\
+                   O 0000000000000000000 00000000\n";
+    std::fs::write(&path, series).unwrap();
+    let arguments = ["series", path.to_str().unwrap()];
+    let output = oracle(&arguments, b"");
+    assert_eq!(output.status.code(), Some(0));
+    assert_eq!(output.stdout, b"J 2\nO refused 21 0 1681\n");
+    std::fs::write(&path, &series[..92]).unwrap();
+    let output = oracle(&arguments, b"");
+    assert_eq!(output.status.code(), Some(2));
+    assert_eq!(output.stdout, b"");
+    let error = b"oracle: operation 3 at byte 62: header cut short\n";
+    assert_eq!(output.stderr, error);
+}
+
+/// The kept series are numbered files, and the lines are those of their runs.
+#[test]
+fn series_kept_command() {
+    let directory = PathBuf::from(env!("CARGO_TARGET_TMPDIR")).join("kept-series");
+    let directory = directory.to_str().unwrap();
+    let output = oracle(&["series-kept", "5", "3", directory], b"");
+    assert_eq!(output.status.code(), Some(0));
+    let mut lines = Vec::new();
+    for name in ["001", "002", "003"] {
+        let path = format!("{directory}/{name}.series");
+        lines.append(&mut oracle(&["series", &path], b"").stdout);
+    }
+    assert!(!lines.is_empty());
+    assert_eq!(output.stdout, lines);
+}
+
 #[test]
 fn mistakes_in_the_call() {
-    let calls: [&[&str]; 5] = [
+    let calls: [&[&str]; 9] = [
         &["place", "1"],
         &["place", "x", "no such file", "1"],
         &["movement", "1", "no such file", "1"],
         &["listing", "1"],
         &["unknown", "1", "2"],
+        &["series"],
+        &["series", "no such file"],
+        &["series-kept", "1", "x", "no such directory"],
+        &["series-big"],
     ];
     for arguments in calls {
         assert_eq!(oracle(arguments, b"").status.code(), Some(2));

@@ -2,9 +2,14 @@
 
 mod command;
 mod common;
+mod delivery;
+mod journal;
 mod listing;
+mod newest;
 #[path = "../outcomes/mod.rs"]
 mod outcomes;
 mod readers;
 mod readings;
+mod series;
+mod shelf;
 mod worked;

@@ -1,0 +1,388 @@
+//! Generated series against simple statements of what a journal holds and answers.
+//!
+//! The statements of a file or of body lines are cut here by this test's own code: a statement
+//! ends with its 07.
+
+use std::collections::BTreeSet;
+
+use oracle::delivery::{deliver, newest, Delivered, Newest, Source};
+use oracle::journal::{body, entry, is_sound, open};
+use oracle::read::{Place, Refusal};
+use oracle::series::{operations, perform, run, Operation};
+use oracle::series_cases::{large_cases, scenes, series_case, KEPT_JOURNAL, KEPT_SERIES, KINDS};
+
+const TABLE: usize = 7_680;
+const SEED: u64 = 21;
+/// Each kind comes so many times.
+const ROUNDS: usize = 6;
+
+/// A statement's records without line ends.
+type Records = Vec<u8>;
+
+/// Cuts lines into statements.
+fn cut<'a>(lines: impl Iterator<Item = &'a [u8]>) -> Vec<Records> {
+    let mut statements = Vec::new();
+    let mut open = Vec::new();
+    for line in lines {
+        open.extend(&line[..120]);
+        if line.starts_with(b"07") {
+            statements.push(std::mem::take(&mut open));
+        }
+    }
+    statements
+}
+
+fn in_file(line_end: u64, file: &[u8]) -> Vec<Records> {
+    cut(file.chunks(120 + line_end as usize))
+}
+
+/// The statements in the body lines up to the first blank one.
+fn in_journal(journal: &[u8]) -> Vec<Records> {
+    cut(used_lines(journal))
+}
+
+fn used_lines(journal: &[u8]) -> impl Iterator<Item = &[u8]> {
+    let lines = journal[TABLE..].chunks(120);
+    lines.take_while(|line| line.iter().any(|&byte| byte != b' '))
+}
+
+/// The key of a statement, as in an entry.
+fn key_of(records: &[u8]) -> Vec<u8> {
+    [&records[2..7], &records[11..20], &records[21..32]].concat()
+}
+
+/// A file of these statements with another line end.
+fn relined(statements: &[Records], line_end: u64) -> Vec<u8> {
+    let end: &[u8] = [&b""[..], b"\n", b"\r\n"][line_end as usize];
+    let records = statements.iter().flat_map(|records| records.chunks(120));
+    records.flat_map(|record| [record, end].concat()).collect()
+}
+
+/// What is watched while a series runs.
+#[derive(Default)]
+struct Watch {
+    journal: Vec<u8>,
+    /// The journal after the last delivery or opening, and the statements that were delivered
+    /// without refusal since the opening, in order of first arrival, none twice.
+    clean: Option<(Vec<u8>, Vec<Records>)>,
+    refusals: BTreeSet<u32>,
+    deliveries: usize,
+    answers: usize,
+}
+
+impl Watch {
+    fn series(&mut self, bytes: &[u8]) {
+        self.journal.clear();
+        self.clean = None;
+        for operation in operations(bytes).unwrap() {
+            match operation {
+                Operation::Journal { .. } => {
+                    self.clean = None;
+                    self.perform(operation);
+                }
+                Operation::Poke { .. } => assert_eq!(self.perform(operation), None),
+                Operation::Open => self.opening(operation),
+                Operation::Deliver { line_end, file } => self.delivery(operation, line_end, file),
+                _ => self.question(operation),
+            }
+        }
+    }
+
+    /// Performs an operation and notes its refusal.
+    fn perform(&mut self, operation: Operation) -> Option<String> {
+        let line = perform(&mut self.journal, operation)?;
+        let words: Vec<&str> = line.split(' ').collect();
+        if words[1] == "refused" {
+            self.refusals.insert(words[2].parse().unwrap());
+        }
+        self.answers += 1;
+        Some(line)
+    }
+
+    fn opening(&mut self, operation: Operation) {
+        let before = self.journal.clone();
+        let line = self.perform(operation).unwrap();
+        if line.starts_with("O refused 21 0 ") {
+            assert!(self.journal == before);
+        } else {
+            assert!(line.starts_with("O opened "));
+            assert!(self.journal.iter().all(|&byte| byte == b' '));
+            self.clean = Some((self.journal.clone(), Vec::new()));
+        }
+    }
+
+    /// Questions leave the journal as it is.
+    fn question(&mut self, operation: Operation) {
+        let before = self.journal.clone();
+        let line = self.perform(operation).unwrap();
+        assert!(self.journal == before);
+        match operation {
+            Operation::Sound => {
+                let sound = is_made_by_deliveries(&before);
+                assert_eq!(line, if sound { "S sound" } else { "S unsound" });
+            }
+            Operation::Newest {
+                line_end,
+                key,
+                file,
+            } => assert_newest(&before, line_end, key, file),
+            _ => {}
+        }
+    }
+
+    /// A refusal changes no byte. Otherwise the list grows by what it did not have.
+    fn delivery(&mut self, operation: Operation, line_end: u64, file: &[u8]) {
+        let before = self.journal.clone();
+        let sound = is_sound(&before);
+        let line = self.perform(operation).unwrap();
+        assert_eq!(line.starts_with("D refused 21 0 "), !sound);
+        if line.starts_with("D refused ") {
+            assert!(self.journal == before);
+            assert_refused_statement(&before, &line, line_end, file);
+            return;
+        }
+        self.deliveries += 1;
+        assert!(is_sound(&self.journal));
+        let mut list = self.list_before(&before);
+        let sent = in_file(line_end, file);
+        let mut stored = 0;
+        for statement in &sent {
+            if !list.contains(statement) {
+                list.push(statement.clone());
+                stored += 1;
+            }
+        }
+        let held = sent.len() - stored;
+        assert!(line.starts_with(&format!("D stored {stored} held {held} ")));
+        assert_holds(&self.journal, &list);
+        assert_retries(&self.journal, &sent);
+        self.clean = Some((self.journal.clone(), list));
+    }
+
+    /// The list so far. After pokes that left the journal sound it is what the body lines say.
+    fn list_before(&self, journal: &[u8]) -> Vec<Records> {
+        match &self.clean {
+            Some((clean, list)) if clean == journal => list.clone(),
+            _ => in_journal(journal),
+        }
+    }
+}
+
+/// For 22, 23, 24: without the statement at that record and all behind it the file is delivered,
+/// and then that statement alone has the same refusal, at its first record.
+fn assert_refused_statement(journal: &[u8], line: &str, line_end: u64, file: &[u8]) {
+    let words: Vec<u64> = line
+        .split(' ')
+        .filter_map(|word| word.parse().ok())
+        .collect();
+    let (number, record) = (words[0] as u32, words[1]);
+    if !(22..=24).contains(&number) {
+        return;
+    }
+    let sent = in_file(line_end, file);
+    let index = (0..sent.len()).find(|&index| place_of(&sent, index) as u64 + 1 == record);
+    let (before, from_there) = sent.split_at(index.unwrap());
+    let mut copy = journal.to_vec();
+    assert!(deliver(&mut copy, 0, &before.concat()).is_ok());
+    let alone = Refusal { number, record: 1 };
+    assert_eq!(deliver(&mut copy, 0, &from_there[0]), Err(alone));
+}
+
+/// A journal is sound if and only if delivering what stands in its lines, one by one, to a fresh
+/// one makes the same bytes.
+fn is_made_by_deliveries(journal: &[u8]) -> bool {
+    let mut fresh = journal.to_vec();
+    if open(&mut fresh).is_err() {
+        return false;
+    }
+    let stored = Ok(Delivered { stored: 1, held: 0 });
+    let mut all = in_journal(journal).into_iter();
+    all.all(|records| deliver(&mut fresh, 0, &records) == stored) && fresh == journal
+}
+
+/// The journal holds this list, entry by entry, and nothing else.
+fn assert_holds(journal: &[u8], list: &[Records]) {
+    let mut first = TABLE;
+    for (e, records) in (1..).zip(list) {
+        let length = records.len();
+        assert_eq!(entry(journal, e), Ok(Place { first, length }));
+        assert!(body(journal, e) == Ok(&records[..]));
+        first += length;
+    }
+    assert!(journal[first..].iter().all(|&byte| byte == b' '));
+    let none = Err(Refusal {
+        number: 25,
+        record: 0,
+    });
+    assert_eq!(entry(journal, list.len() as u64 + 1), none);
+    assert_eq!(entry(journal, 0), none);
+}
+
+/// What was delivered is held, with each of the line ends.
+fn assert_retries(journal: &[u8], sent: &[Records]) {
+    for line_end in 0..3 {
+        let mut copy = journal.to_vec();
+        let held = Delivered {
+            stored: 0,
+            held: sent.len() as u64,
+        };
+        let answer = deliver(&mut copy, line_end, &relined(sent, line_end));
+        assert_eq!(answer, Ok(held));
+        assert!(copy == journal);
+    }
+}
+
+/// The newest statement is the account's last after a delivery. It comes from the journal if it
+/// was there before, else from its first place in the file.
+fn assert_newest(journal: &[u8], line_end: u64, key: &[u8], file: &[u8]) {
+    let mut copy = journal.to_vec();
+    let expected = deliver(&mut copy, line_end, file).and_then(|_| {
+        let after = in_journal(&copy);
+        let mut last_first = after.iter().rev();
+        let last = last_first.find(|records| key_of(records) == key);
+        let last = last.ok_or(Refusal {
+            number: 25,
+            record: 0,
+        })?;
+        let before = in_journal(journal);
+        Ok(match place_in(&before, last) {
+            Some(record) => Newest {
+                source: Source::Journal,
+                place: Place {
+                    first: TABLE + 120 * record,
+                    length: last.len(),
+                },
+                line_end: 0,
+            },
+            None => {
+                let line = 120 + line_end as usize;
+                let record = place_in(&in_file(line_end, file), last).unwrap();
+                let place = Place {
+                    first: line * record,
+                    length: line * (last.len() / 120),
+                };
+                Newest {
+                    source: Source::File,
+                    place,
+                    line_end,
+                }
+            }
+        })
+    });
+    assert_eq!(newest(journal, line_end, file, key), expected);
+}
+
+/// How many records stand before the first statement with these records.
+fn place_in(list: &[Records], wanted: &Records) -> Option<usize> {
+    let index = list.iter().position(|records| records == wanted)?;
+    Some(place_of(list, index))
+}
+
+/// How many records stand before the statement of that index.
+fn place_of(list: &[Records], index: usize) -> usize {
+    list[..index]
+        .iter()
+        .map(|records| records.len() / 120)
+        .sum()
+}
+
+/// Every kind in turn; among them all refusals but those that need large files.
+#[test]
+fn generated_series_keep_the_rules() {
+    let mut watch = Watch::default();
+    for index in 0..ROUNDS * KINDS.len() {
+        watch.series(&series_case(SEED, index).bytes);
+    }
+    let expected: BTreeSet<u32> = (1..=14).filter(|&n| n != 3).chain(21..=25).collect();
+    assert_eq!(watch.refusals, expected);
+    println!("{} deliveries, {} answers", watch.deliveries, watch.answers);
+    assert!(watch.deliveries > 900);
+}
+
+#[test]
+fn large_series_keep_the_rules() {
+    let mut watch = Watch::default();
+    for case in large_cases() {
+        watch.series(&case.bytes);
+    }
+    let expected = BTreeSet::from([3, 15, 21, 24, 25]);
+    assert_eq!(watch.refusals, expected);
+}
+
+#[test]
+fn kept_series_are_small() {
+    for index in 0..6 * ROUNDS * KINDS.len() {
+        let case = series_case(SEED + 1, index);
+        assert_eq!(case.name, KINDS[index % KINDS.len()].0);
+        assert!(case.bytes.len() <= KEPT_SERIES, "{}", case.name);
+        for operation in operations(&case.bytes).unwrap() {
+            if let Operation::Journal { length } = operation {
+                assert!(length <= KEPT_JOURNAL, "{}", case.name);
+            }
+        }
+    }
+}
+
+/// The same seed and index give the same series; others give others.
+#[test]
+fn seeds_decide() {
+    for index in 0..KINDS.len() {
+        let bytes = |seed, index| series_case(seed, index).bytes;
+        assert!(bytes(1, index) == bytes(1, index));
+        assert!(bytes(1, index) != bytes(2, index));
+        assert!(bytes(1, index) != bytes(1, index + KINDS.len()));
+    }
+}
+
+#[test]
+fn operations_are_written_back() {
+    for index in 0..KINDS.len() {
+        let bytes = series_case(SEED, index).bytes;
+        let operations = operations(&bytes).unwrap();
+        let written: Vec<u8> = operations.iter().flat_map(Operation::bytes).collect();
+        assert!(written == bytes);
+        let pokes = operations.iter().filter(|&operation| is_poke(operation));
+        let lines = operations.len() - pokes.count();
+        assert_eq!(run(&bytes).unwrap().len(), lines);
+    }
+}
+
+fn is_poke(operation: &Operation) -> bool {
+    matches!(operation, Operation::Poke { .. })
+}
+
+/// A series cut anywhere but between operations is a mistake, never a crash.
+#[test]
+fn cut_series_are_mistakes() {
+    let bytes = series_case(SEED, 1).bytes;
+    let mut ends = BTreeSet::from([0]);
+    let mut end = 0;
+    for operation in operations(&bytes).unwrap() {
+        end += operation.bytes().len();
+        ends.insert(end);
+    }
+    for end in 0..=bytes.len() {
+        assert_eq!(operations(&bytes[..end]).is_ok(), ends.contains(&end));
+    }
+}
+
+/// Each damage leaves the journal sound or not, as it says; the journal before it is the one
+/// that delivery makes.
+#[test]
+fn damages_do_what_they_say() {
+    for seed in 0..60 {
+        for scene in scenes(seed) {
+            let mut journal = vec![b'.'; TABLE + 120 * scene.lines];
+            open(&mut journal).unwrap();
+            for statement in &scene.list {
+                deliver(&mut journal, 0, &statement.records.concat()).unwrap();
+            }
+            assert!(journal == scene.bytes);
+            for damage in &scene.damages {
+                assert!(damage.bytes != scene.bytes, "{}", damage.name);
+                assert_eq!(is_sound(&damage.bytes), damage.sound, "{}", damage.name);
+                assert_eq!(is_made_by_deliveries(&damage.bytes), damage.sound);
+            }
+        }
+    }
+}
