@@ -1,0 +1,50 @@
+-- The contract of each public function: its one answer, the one final content of what is lent, and the answer as the paper gives it.
+use mathlib.Core.Path.{_≡_}
+use mathlib.Core.Bool.{Bool}
+use mathlib.Core.List.{List}
+use Prim.Native.Nat.{ℕ}
+use lib.ListN.{length}
+use lib.IntN.{ℤ}
+use Rattle.zones.specs.Choice.{pick}
+use Rattle.framing.specs.declared.Form.{Form}
+use Rattle.readers.specs.declared.Place.{Place}
+use Rattle.journal_layout.specs.declared.Judgement.{Judgement}
+use Rattle.journal_layout.specs.declared.Opening.{Opening}
+use Rattle.journal_layout.specs.declared.Opening.the-variants.{Opened, Refused}
+use Rattle.journal_layout.specs.Chains.{followsBy}
+use Rattle.journal_layout.specs.Layout.{isLength, openedOf}
+use Rattle.journal_layout.specs.Test.{laterOf, judgedBy, soundIn, entryPlaceOf, entryBodyOf}
+
+-- number and record; zero where the paper says zero
+abbrev pub paperOpening : Opening → ℕ × ℕ
+paperOpening Opened = (0, 0)
+paperOpening (Refused n r) = (n, r)
+
+-- later
+pub record Later (last : Judgement) (f : Form) (h s : List ℕ) (r : Judgement) : Type 0 where
+  pub answer : r ≡ laterOf last f h s
+
+-- follows
+pub record FollowsOn (j : Judgement) (date : ℕ) (balance : ℤ) (r : Bool) : Type 0 where
+  pub answer : r ≡ followsBy j date balance
+
+-- judged
+pub record Judged (j : List ℕ) (n : ℕ) (f : Form) (s : List ℕ) (r : Judgement) : Type 0 where
+  pub answer : r ≡ judgedBy j n f s
+
+-- sound
+pub record Sound (j : List ℕ) (r : Bool) : Type 0 where
+  pub answer : r ≡ soundIn j
+
+-- open: 21 for a length that no journal has
+pub record Opens (j : List ℕ) (r : Opening) (j′ : List ℕ) : Type 0 where
+  pub answer : r ≡ pick (isLength (length j)) Opened (Refused 21 0)
+  pub content : j′ ≡ openedOf j
+
+-- entry_place
+pub record EntryPlace (j : List ℕ) (e : ℕ) (r : Place) : Type 0 where
+  pub answer : r ≡ entryPlaceOf j e
+
+-- entry
+pub record EntryBody (j : List ℕ) (e : ℕ) (r : List ℕ) : Type 0 where
+  pub answer : r ≡ entryBodyOf j e

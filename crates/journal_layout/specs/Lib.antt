@@ -1,0 +1,4 @@
+pub mod Chains
+pub mod Layout
+pub mod Test
+pub mod Answers
