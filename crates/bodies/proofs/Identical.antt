@@ -1,28 +1,32 @@
--- Two parts hold the same records exactly if their statements are identical.
+-- Two parts hold the same records exactly if their statements are identical, and a part's body is its statement's.
 use mathlib.Core.Path.{_≡_, refl, sym, ap, _∙_}
 use mathlib.Core.Bool.{true, _&&_}
 use mathlib.Core.List.{List, [], _∷_, _++_, map}
-use Prim.Native.Nat.{ℕ}
-use native.Mathlib.Nat.{zero-mul}
+use Prim.Native.Nat.{ℕ, _*_, _≤_}
+use native.Mathlib.Nat.{zero-mul, mul-div-cancel}
 use native.Mathlib.Omega.{arith}
 use lib.Dec.{eqb}
-use lib.ListN.{length, length-append}
+use lib.ListN.{length, drop, length-append}
 use lib.Seq.{take-at}
+use borrow.Author.Tests.{le-ltb}
 use Rattle.zones.specs.Copy.{sameBytes}
 use Rattle.zones.specs.Pieces.{flat}
 use Rattle.zones.proofs.Bools.{and-assoc}
 use Rattle.zones.proofs.Copies.{other-length, same-equal}
 use Rattle.framing.specs.declared.Form.{Form}
-use Rattle.framing.specs.Files.{All, endOf, widthOf, piecesOf}
+use Rattle.framing.specs.Files.{All, endOf, widthOf, countOf, piecesOf}
 use Rattle.grammar.specs.Record.{Rec}
 use Rattle.grammar.specs.Statements.{Statement, recordsOf}
 use Rattle.grammar.specs.Files.{Reads}
+use Rattle.grammar.specs.Parts.{sizeOf}
 use Rattle.grammar.proofs.Seam.{piecesFor}
 use Rattle.grammar.proofs.Trips.{one-records}
 use Rattle.records.specs.July.{recordSize, Holds, july, july2004, encodeRecord}
 use Rattle.records.proofs.Lawful.{july-lawful}
-use Rattle.readers.proofs.Rows.{pieces-from}
-use Rattle.bodies.specs.Bodies.{kept, bodyOf, identical, sameRows, sameRecords}
+use Rattle.readers.proofs.Rows.{some, pieces-from}
+use Rattle.bodies.specs.Bodies.{kept, bodyOf, identical, sameRows, sameRecords, keptRows, bodyIn, bodyPut}
+use Rattle.bodies.specs.Answers.{PutBody}
+use Rattle.bodies.proofs.Ends.{length-part}
 
 -- rows compared in two parts
 same-append : (a b c d : List ℕ) → length a ≡ length c → (sameBytes a c && sameBytes b d) ≡ sameBytes (a ++ b) (c ++ d)
@@ -63,3 +67,24 @@ same-identical {f} {g} {a} {b} {s} {t} p q =
 pub identical-bodies : (s t : Statement) → identical s t ≡ true → bodyOf s ≡ bodyOf t
 unfolding identical
 identical-bodies s t e = same-equal (bodyOf s) (bodyOf t) e
+
+-- the body of a part is that of its statement
+rows-text : (f : Form) (xs : List Rec) → All Holds xs → keptRows (piecesFor july f xs) ≡ keptText xs
+unfolding keptRows flat
+rows-text f [] p = refl
+rows-text f (x ∷ xs) p =
+    rw (take-at (encodeRecord x) (endOf f) recordSize (july-lawful .wide x (p .0))) (ap (λ l. kept (encodeRecord x) ++ l) (rows-text f xs (p .1)))
+
+module _ {f : Form} {b : List ℕ} {s : Statement} (r : Reads july f b (s ∷ [])) where
+  pub body-of-part : bodyIn f b ≡ bodyOf s
+  unfolding bodyIn bodyOf
+  body-of-part = rw (pieces-of r) (rows-text f (recordsOf july2004 s) (rw (one-records july2004 s) at (r .ok)))
+
+  -- as many records as the statement has
+  pub part-count : countOf recordSize f b ≡ sizeOf s
+  part-count = rw (length-part r) (mul-div-cancel (sizeOf s) (some f))
+
+  -- its body copied to where there is room
+  pub body-put : {x y : List ℕ} → PutBody f b x y → recordSize * sizeOf s ≤ length x → y ≡ bodyOf s ++ drop (recordSize * sizeOf s) x
+  unfolding bodyPut
+  body-put {x} p h = p .content ∙ rw (r .line, part-count, le-ltb (length x) (recordSize * sizeOf s) h, body-of-part)

@@ -2,4 +2,5 @@ pub mod Compared
 pub mod Single
 pub mod Ends
 pub mod Identical
+pub mod Copied
 pub mod One

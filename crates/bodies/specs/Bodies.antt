@@ -1,14 +1,14 @@
 -- A statement as the journal keeps it: its records without line ends, one after another.
 use mathlib.Core.Bool.{Bool, true, false, _&&_, _||_}
-use mathlib.Core.List.{List, [], _∷_, map}
-use Prim.Native.Nat.{ℕ, _-_}
+use mathlib.Core.List.{List, [], _∷_, _++_, map}
+use Prim.Native.Nat.{ℕ, _-_, _*_}
 use lib.Dec.{eqb, ltb}
-use lib.ListN.{length, take, getD}
+use lib.ListN.{length, take, drop, getD}
 use Rattle.zones.specs.Choice.{pick}
 use Rattle.zones.specs.Copy.{sameBytes}
 use Rattle.zones.specs.Pieces.{flat}
 use Rattle.framing.specs.declared.Form.{Form}
-use Rattle.framing.specs.Files.{unknownEnd, widthOf, piecesOf}
+use Rattle.framing.specs.Files.{unknownEnd, widthOf, countOf, piecesOf}
 use Rattle.grammar.specs.Answer.{Answer, accepted, refused}
 use Rattle.grammar.specs.Record.{opening, closing}
 use Rattle.grammar.specs.Statements.{Statement, recordsOf}
@@ -67,6 +67,21 @@ sameRows (p ∷ ps) (q ∷ qs) = sameRecord (take recordSize p) (take recordSize
 unfoldable pub sameRecords : Form → List ℕ → Form → List ℕ → Bool
 sameRecords f a g b =
     pick (unknownEnd f || unknownEnd g) false (sameRows (piecesOf recordSize f a) (piecesOf recordSize g b))
+
+-- the records of a row of pieces, as they are kept
+unfoldable pub keptRows : List (List ℕ) → List ℕ
+keptRows [] = []
+keptRows (p ∷ ps) = kept (take recordSize p) ++ keptRows ps
+
+-- the body of a part: its records as they are kept, without line ends
+unfoldable pub bodyIn : Form → List ℕ → List ℕ
+bodyIn f b = keptRows (piecesOf recordSize f b)
+
+-- into the first bytes of a buffer; nothing where it is too short, or the line end is unknown
+unfoldable pub bodyPut : Form → (b dst : List ℕ) → List ℕ
+bodyPut f b dst =
+    let n = recordSize * countOf recordSize f b in
+    pick (unknownEnd f || ltb (length dst) n) dst (bodyIn f b ++ drop n dst)
 
 -- the last record of a part, none where there is none
 unfoldable pub closingIn : Form → List ℕ → List ℕ

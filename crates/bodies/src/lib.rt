@@ -1,10 +1,12 @@
-// A statement as the journal keeps it: its records without line ends. Two statements are compared record by record, whatever their line ends.
+// A statement as the journal keeps it: its records without line ends. Two statements are compared, and one is copied, record by record.
 ghost use mathlib.Core.Path.{_≡_};
 ghost use Prim.Native.Nat.{_*_, _≤_};
-ghost use lib.ListN.{length};
+ghost use lib.ListN.{length, drop};
+ghost use mathlib.Core.List.{_++_};
+ghost use Rattle.records.specs.July.{recordSize};
 ghost use Rattle.framing.specs.Files.{chunks};
-ghost use Rattle.bodies.specs.Bodies.{sameRecord, sameRows};
-ghost use Rattle.bodies.specs.Answers.{IsSingle, SameRecords, ClosingOf};
+ghost use Rattle.bodies.specs.Bodies.{kept, sameRecord, sameRows, keptRows};
+ghost use Rattle.bodies.specs.Answers.{IsSingle, SameRecords, ClosingOf, PutBody};
 use framing::Form;
 use statements::Checked;
 
@@ -84,4 +86,44 @@ pub fn closing_of(form: Form, part: &[u8]) -> &[u8]
         return &part[..0];
     }
     contents::record_at(part, part.len() - width)
+}
+
+// A record as it is kept.
+fn put_record(dst: &mut [u8], r: &[u8])
+    requires { ⌜ (length (now dst) ≡ recordSize) × (length (now r) ≡ recordSize) ⌝ }
+    ensures { λ _. ⌜ now (dst .exit) ≡ kept (now (r .entry)) ⌝ }
+{
+    zones::put(dst, r);
+}
+
+// So many records of a part, width bytes from one to the next, into the first lines of a buffer.
+fn put_rows(dst: &mut [u8], part: &[u8], width: usize, count: usize)
+    requires { ⌜ (recordSize ≤ width) × (count * width ≤ length (now part)) × (recordSize * count ≤ length (now dst)) ⌝ }
+    ensures { λ _. ⌜ now (dst .exit) ≡ keptRows (chunks width count (now (part .entry))) ++ drop (recordSize * count) (now (dst .entry)) ⌝ }
+{
+    let mut i: usize = 0;
+    let mut p: usize = 0;
+    while i < count {
+        let a = 120 * i;
+        let z = a + 120;
+        let e = p + 120;
+        put_record(&mut dst[a..z], &part[p..e]);
+        p += width;
+        i += 1;
+    }
+}
+
+// The body of a part into the first lines of a buffer. Nothing is written where it is too short.
+pub fn put_body(dst: &mut [u8], form: Form, part: &[u8])
+    ensures { λ _. ⌜ PutBody form (now (part .entry)) (now (dst .entry)) (now (dst .exit)) ⌝ }
+{
+    if 2 < form.line_end {
+        return;
+    }
+    let width = 120 + form.line_end as usize;
+    let count = part.len() / width;
+    if dst.len() / 120 < count {
+        return;
+    }
+    put_rows(dst, part, width, count);
 }
