@@ -259,7 +259,7 @@ member : (H : List Statement) (t : Statement) (B : List Statement) → getD (H +
 member [] t B = refl
 member (h ∷ H) t B = member H t B
 
-lines-before : (H B : List Statement) → recordsBefore (length H) (H ++ B) ≡ linesOf H
+pub lines-before : (H B : List Statement) → recordsBefore (length H) (H ++ B) ≡ linesOf H
 unfolding recordsBefore linesOf
 lines-before [] B = refl
 lines-before (h ∷ H) B = ap (λ (n : ℕ). sizeOf h + n) (lines-before H B)

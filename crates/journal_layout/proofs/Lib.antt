@@ -5,4 +5,5 @@ pub mod Holding
 pub mod Adding
 pub mod Exact
 pub mod Places
+pub mod Freeing
 pub mod One

@@ -6,9 +6,10 @@ use Prim.Native.Nat.{ℕ}
 use lib.IntN.{ℤ}
 use Rattle.framing.specs.declared.Form.{Form}
 use Rattle.readers.specs.declared.Place.{Place}
+use Rattle.journal_layout.specs.declared.Free.{Free}
 use Rattle.journal_layout.specs.declared.Judgement.{Judgement}
 use Rattle.journal_layout.specs.declared.Opening.{Opening}
-use Rattle.journal_layout.specs.Answers.{Later, FollowsOn, Judged, Sound, Opens, EntryPlace, EntryBody}
+use Rattle.journal_layout.specs.Answers.{Later, FollowsOn, Judged, Sound, FirstFree, Opens, EntryPlace, EntryBody}
 
 pub one-later : {last : Judgement} {f : Form} {h s : List ℕ} {r q : Judgement} → Later last f h s r → Later last f h s q → r ≡ q
 one-later g h = g .answer ∙ sym (h .answer)
@@ -21,6 +22,9 @@ one-judged g h = g .answer ∙ sym (h .answer)
 
 pub one-sound : {j : List ℕ} {r q : Bool} → Sound j r → Sound j q → r ≡ q
 one-sound g h = g .answer ∙ sym (h .answer)
+
+pub one-first-free : {j : List ℕ} {r q : Free} → FirstFree j r → FirstFree j q → r ≡ q
+one-first-free g h = g .answer ∙ sym (h .answer)
 
 pub one-open : {j : List ℕ} {r q : Opening} {x y : List ℕ} → Opens j r x → Opens j q y → (r ≡ q) × (x ≡ y)
 one-open g h = (g .answer ∙ sym (h .answer), g .content ∙ sym (h .content))

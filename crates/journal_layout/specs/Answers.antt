@@ -8,12 +8,13 @@ use lib.IntN.{ℤ}
 use Rattle.zones.specs.Choice.{pick}
 use Rattle.framing.specs.declared.Form.{Form}
 use Rattle.readers.specs.declared.Place.{Place}
+use Rattle.journal_layout.specs.declared.Free.{Free}
 use Rattle.journal_layout.specs.declared.Judgement.{Judgement}
 use Rattle.journal_layout.specs.declared.Opening.{Opening}
 use Rattle.journal_layout.specs.declared.Opening.the-variants.{Opened, Refused}
 use Rattle.journal_layout.specs.Chains.{followsBy}
 use Rattle.journal_layout.specs.Layout.{isLength, openedOf}
-use Rattle.journal_layout.specs.Test.{laterOf, judgedBy, soundIn, entryPlaceOf, entryBodyOf}
+use Rattle.journal_layout.specs.Test.{laterOf, judgedBy, soundIn, freeIn, entryPlaceOf, entryBodyOf}
 
 -- number and record; zero where the paper says zero
 abbrev pub paperOpening : Opening → ℕ × ℕ
@@ -35,6 +36,10 @@ pub record Judged (j : List ℕ) (n : ℕ) (f : Form) (s : List ℕ) (r : Judgem
 -- sound
 pub record Sound (j : List ℕ) (r : Bool) : Type 0 where
   pub answer : r ≡ soundIn j
+
+-- first_free
+pub record FirstFree (j : List ℕ) (r : Free) : Type 0 where
+  pub answer : r ≡ freeIn j
 
 -- open: 21 for a length that no journal has
 pub record Opens (j : List ℕ) (r : Opening) (j′ : List ℕ) : Type 0 where

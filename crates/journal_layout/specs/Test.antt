@@ -2,7 +2,7 @@
 use mathlib.Core.Bool.{Bool, false, _&&_, _||_}
 use mathlib.Core.List.{List, [], _∷_}
 use Prim.Native.Nat.{ℕ, zero, suc, _+_, _-_, _*_}
-use lib.Dec.{leb}
+use lib.Dec.{eqb, leb}
 use lib.ListN.{length, take, drop, getD, replicate}
 use Rattle.zones.specs.Choice.{pick}
 use Rattle.zones.specs.Class.{blank, all}
@@ -18,6 +18,7 @@ use Rattle.readers.specs.declared.Place.{Place}
 use Rattle.readers.specs.declared.Place.the-variants.{At, Refused}
 use Rattle.bodies.specs.Bodies.{plain, bodyOf, single, statementOf, sameRecords, closingIn}
 use Rattle.entries.specs.Entries.{mostEntries, entrySize, tableSize, lineAt, entryPut, entryBytes, entryIn, linesFrom, bodyAt}
+use Rattle.journal_layout.specs.declared.Free.{Free}
 use Rattle.journal_layout.specs.declared.Judgement.{Judgement}
 use Rattle.journal_layout.specs.declared.Judgement.the-variants.{Held, First, After}
 use Rattle.journal_layout.specs.Chains.{followsBy}
@@ -75,6 +76,17 @@ readFrom (suc m) e j = pick (entryIn j e .used) (statementOf (bodyAt j e) ∷ re
 
 unfoldable pub heldOf : List ℕ → List Statement
 heldOf j = readFrom mostEntries 0 j
+
+-- the first unused entry, and the line behind the body of the entry before it
+unfoldable pub unusedFrom : (left e : ℕ) → List ℕ → ℕ
+unusedFrom zero e j = e
+unusedFrom (suc m) e j = pick (entryIn j e .used) (unusedFrom m (e + 1) j) e
+
+abbrev pub lineBehind : List ℕ → ℕ → ℕ
+lineBehind j e = pick (eqb e 0) 0 (entryIn j (e - 1) .first + entryIn j (e - 1) .records)
+
+unfoldable pub freeIn : List ℕ → Free
+freeIn j = record { entry = unusedFrom mostEntries 0 j; line = lineBehind j (unusedFrom mostEntries 0 j) }
 
 -- entry e's body, from 1: its place and its bytes; 21, then 25
 unfoldable pub entryPlaceOf : List ℕ → ℕ → Place

@@ -6,8 +6,8 @@ ghost use Rattle.zones.specs.Copy.{sameBytes};
 ghost use Rattle.records.specs.July.{recordSize};
 ghost use Rattle.entries.specs.Entries.{mostEntries, entrySize, tableSize, lineAt, entryPut};
 ghost use Rattle.journal_layout.specs.Layout.{mostLines, isLength};
-ghost use Rattle.journal_layout.specs.Test.{fitsIn, restBlank, walkIn};
-ghost use Rattle.journal_layout.specs.Answers.{Later, FollowsOn, Judged, Sound, Opens, EntryPlace, EntryBody};
+ghost use Rattle.journal_layout.specs.Test.{fitsIn, restBlank, walkIn, unusedFrom};
+ghost use Rattle.journal_layout.specs.Answers.{Later, FollowsOn, Judged, Sound, FirstFree, Opens, EntryPlace, EntryBody};
 use framing::Form;
 use readers::Place;
 
@@ -16,6 +16,12 @@ pub enum Judgement {
     Held,
     First,
     After { date: u32, balance: i64 },
+}
+
+// The first unused entry, from 0, and the first line behind the bodies.
+pub struct Free {
+    pub entry: usize,
+    pub line: usize,
 }
 
 pub enum Opening {
@@ -152,6 +158,35 @@ pub fn sound(journal: &[u8]) -> bool
         return false;
     }
     walk(journal)
+}
+
+fn first_unused(journal: &[u8]) -> usize
+    ensures { λ e. ⌜ e ≡ unusedFrom mostEntries 0 (now (journal .entry)) ⌝ }
+{
+    let mut e: usize = 0;
+    while e < 128 {
+        let x = entries::entry_at(journal, e);
+        if !x.used {
+            return e;
+        }
+        e += 1;
+    }
+    e
+}
+
+// Where the next statement goes in a sound journal.
+pub fn first_free(journal: &[u8]) -> Free
+    ensures { λ r. ⌜ FirstFree (now (journal .entry)) r ⌝ }
+{
+    let entry = first_unused(journal);
+    if entry == 0 {
+        return Free { entry, line: 0 };
+    }
+    let x = entries::entry_at(journal, entry - 1);
+    Free {
+        entry,
+        line: x.first + x.records,
+    }
 }
 
 fn blank_all(s: &mut [u8])
