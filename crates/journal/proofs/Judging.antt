@@ -1,0 +1,90 @@
+-- What the planned statements say of another one, and what becomes of it: one law for each return.
+use mathlib.Core.Path.{_≡_, refl, sym, ap, _∙_}
+use mathlib.Core.Bool.{Bool, true, false, not, _||_}
+use mathlib.Core.List.{List}
+use Prim.Native.Nat.{ℕ, suc, _+_, _-_, _<_, _≤_}
+use native.Mathlib.Omega.{arith}
+use lib.ListN.{length, take, drop, getD}
+use lib.IntN.{ℤ}
+use mir.Syntax.{w64}
+use mir.Val.{toZ, ofZ}
+use borrow.Author.Tests.{lt-ltb, le-ltb, le-leb, lt-leb, not-true, not-false}
+use Rattle.zones.specs.Choice.{pick}
+use Rattle.amounts.proofs.Whole.{back}
+use Rattle.framing.specs.declared.Form.{Form}
+use Rattle.records.specs.declared.Look.{Look}
+use Rattle.records.specs.Looks.{lookOf}
+use Rattle.statements.proofs.Judging.{look-small}
+use Rattle.bodies.specs.Bodies.{sameRecords}
+use Rattle.entries.specs.Entries.{mostEntries}
+use Rattle.journal_layout.specs.declared.Judgement.{Judgement}
+use Rattle.journal_layout.specs.declared.Judgement.the-variants.{Held}
+use Rattle.journal_layout.specs.Chains.{followsBy}
+use Rattle.journal_layout.specs.Test.{laterOf}
+use Rattle.journal.specs.Delivery.{isHeld, verdictBy}
+use Rattle.journal.specs.Plans.{partsFrom, heldIn, lastIn, judgedIn, verdictNumber}
+
+module _ (last : Judgement) (f : Form) (b places ends : List ℕ) (count : ℕ) (s : List ℕ) where
+  abbrev whole : Judgement
+  whole = judgedIn last f (partsFrom count 0 places ends b) s
+
+  -- what is answered from here on is the whole answer
+  pub record Going (after : Judgement) (p : ℕ) : Type 0 where
+    pub inside : p ≤ count
+    pub rest : judgedIn after f (partsFrom (count - p) p places ends b) s ≡ whole
+
+  pub begins : Going last 0
+  begins = let z : count - 0 ≡ count = omega arith in record { inside = omega arith; rest = rw z }
+
+  module _ {after : Judgement} {p : ℕ} (g : Going after p) where
+    pub ends-there : count ≤ p → after ≡ whole
+    unfolding partsFrom judgedIn heldIn lastIn
+    ends-there h =
+        let i = g .inside in
+        let z : count - p ≡ 0 = omega arith in
+        rw z at (g .rest)
+
+    module _ (more : p < count) {t : Bool} (q : t ≡ sameRecords f (take (getD ends p 0 - getD places p 0) (drop (getD places p 0) b)) f s) where
+      abbrev h : List ℕ
+      h = take (getD ends p 0 - getD places p 0) (drop (getD places p 0) b)
+
+      abbrev hs : List (List ℕ)
+      hs = partsFrom (count - (p + 1)) (p + 1) places ends b
+
+      step : pick (t || heldIn f hs s) Held (lastIn (laterOf after f h s) f hs s) ≡ whole
+      unfolding partsFrom judgedIn heldIn lastIn
+      step =
+          let z : count - p ≡ suc (count - (p + 1)) = omega arith in
+          rw q (rw z at (g .rest))
+
+      pub found : t ≡ true → Held ≡ whole
+      found y = rw y at step
+
+      pub goes-on : {r : Judgement} → t ≡ false → r ≡ laterOf after f h s → Going r (p + 1)
+      unfolding judgedIn
+      goes-on y w = record { inside = omega arith; rest = rw w (rw y at step) }
+
+-- the verdict
+module _ (j : Judgement) (o : List ℕ) (entries left size : ℕ) where
+  abbrev number : ℕ
+  number = verdictNumber (verdictBy j (lookOf o .day) (lookOf o .amount) entries left size)
+
+  pub is-held : {t : Bool} → t ≡ isHeld j → t ≡ true → 0 ≡ number
+  is-held p h = sym (rw (← p, h))
+
+  module _ {t : Bool} (p : t ≡ isHeld j) (h : t ≡ false) {k : Look} (l : k ≡ lookOf o) {u : Bool} (q : u ≡ followsBy j (k .day) (toZ w64 (ofZ w64 (k .amount)))) where
+    value : u ≡ followsBy j (lookOf o .day) (lookOf o .amount)
+    value = let x = look-small o l in q ∙ rw (back (k .amount) (omega arith), l)
+
+    pub follows-not : not u ≡ true → 22 ≡ number
+    follows-not n = sym (rw (← p, h, ← value, not-true u n))
+
+    module _ (n : not u ≡ false) where
+      pub no-entry : mostEntries ≤ entries → 23 ≡ number
+      no-entry m = sym (rw (← p, h, ← value, not-false u n, le-ltb entries mostEntries m))
+
+      pub no-lines : entries < mostEntries → left < size → 24 ≡ number
+      no-lines m d = sym (rw (← p, h, ← value, not-false u n, lt-ltb entries mostEntries m, lt-leb size left d))
+
+      pub stored : entries < mostEntries → size ≤ left → 1 ≡ number
+      stored m d = sym (rw (← p, h, ← value, not-false u n, lt-ltb entries mostEntries m, le-leb size left d))

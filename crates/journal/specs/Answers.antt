@@ -1,0 +1,29 @@
+-- The contract of each public function: its one answer, the one final content of what is lent, and the answer as the paper gives it.
+use mathlib.Core.Path.{_≡_}
+use mathlib.Core.List.{List}
+use Prim.Native.Nat.{ℕ}
+use Rattle.framing.specs.declared.Form.{Form}
+use Rattle.journal.specs.Delivery.{Outcome, delivered, refused, outcomeOf, contentOf}
+use Rattle.journal.specs.declared.Delivery.{Delivery}
+use Rattle.journal.specs.declared.Delivery.the-variants.{Done, Refused}
+
+-- number, record, stored and held: zero where the paper says zero
+pub record PaperDelivery : Type 0 where
+  pub number : ℕ
+  pub at : ℕ
+  pub stored : ℕ
+  pub held : ℕ
+
+abbrev pub paperDelivery : Delivery → PaperDelivery
+paperDelivery (Done s h) = record { number = 0; at = 0; stored = s; held = h }
+paperDelivery (Refused n r) = record { number = n; at = r; stored = 0; held = 0 }
+
+-- an outcome as the code answers it
+abbrev pub answerOf : Outcome → Delivery
+answerOf (delivered ss s h) = Done s h
+answerOf (refused n r) = Refused n r
+
+-- deliver
+pub record Delivers (j : List ℕ) (f : Form) (b : List ℕ) (r : Delivery) (j′ : List ℕ) : Type 0 where
+  pub answer : r ≡ answerOf (outcomeOf j f b)
+  pub content : j′ ≡ contentOf j f b

@@ -1,0 +1,84 @@
+-- A delivery: a file's statements in turn, on the statements held as the earlier ones leave them.
+use mathlib.Core.Bool.{Bool, true, false}
+use mathlib.Core.List.{List, [], _∷_, _++_}
+use Prim.Native.Nat.{ℕ, _+_, _-_, _/_}
+use lib.Dec.{leb, ltb}
+use lib.ListN.{length}
+use lib.IntN.{ℤ}
+use Rattle.zones.specs.Choice.{pick}
+use Rattle.framing.specs.declared.Form.{Form}
+use Rattle.grammar.specs.Answer as G
+use Rattle.grammar.specs.Statements.{Statement}
+use Rattle.grammar.specs.Files.{statementsOf, checkOf}
+use Rattle.grammar.specs.Parts.{sizeOf}
+use Rattle.records.specs.July.{recordSize, july}
+use Rattle.entries.specs.Entries.{mostEntries, tableSize}
+use Rattle.journal_layout.specs.declared.Judgement.{Judgement}
+use Rattle.journal_layout.specs.declared.Judgement.the-variants.{Held, First, After}
+use Rattle.journal_layout.specs.Chains.{judgementOf, followsBy}
+use Rattle.journal_layout.specs.Layout.{linesOf, layoutOf}
+use Rattle.journal_layout.specs.Test.{soundIn, heldOf}
+
+-- what becomes of a statement
+pub data Verdict : Type 0 where
+  hold : Verdict
+  store : Verdict
+  refuse : (number : ℕ) → Verdict
+
+abbrev pub isHeld : Judgement → Bool
+isHeld Held = true
+isHeld First = false
+isHeld (After d b) = false
+
+-- A held one is held, also if the table is full. Otherwise it must follow, else 22. Then no entry left gives 23, too few lines left 24.
+abbrev pub verdictBy : Judgement → (date : ℕ) → (balance : ℤ) → (entries left size : ℕ) → Verdict
+verdictBy j d b entries left size =
+    pick (isHeld j) hold
+    (pick (followsBy j d b)
+    (pick (ltb entries mostEntries) (pick (leb size left) store (refuse 24)) (refuse 23))
+    (refuse 22))
+
+-- a statement beside those held in a journal of n lines
+unfoldable pub verdictOf : (n : ℕ) → List Statement → Statement → Verdict
+verdictOf n hs s = verdictBy (judgementOf s hs) (s .old-date) (s .old-balance) (length hs) (n - linesOf hs) (sizeOf s)
+
+-- what a delivery comes to: the statements held then, and how many were stored and how many were held; or a refusal and its record
+pub data Outcome : Type 0 where
+  delivered : (list : List Statement) → (stored held : ℕ) → Outcome
+  refused : (number at : ℕ) → Outcome
+
+abbrev pub proceed : {A : Type 0} → Verdict → (held stored : A) → (ℕ → A) → A
+proceed hold a b c = a
+proceed store a b c = b
+proceed (refuse k) a b c = c k
+
+-- So many records of the file are behind, so many statements stored and held. A refusal reports the 01's record.
+unfoldable pub run : (n : ℕ) → List Statement → (behind stored held : ℕ) → List Statement → Outcome
+run n hs behind stored held [] = delivered hs stored held
+run n hs behind stored held (s ∷ ss) =
+    proceed (verdictOf n hs s)
+    (run n hs (behind + sizeOf s) stored (held + 1) ss)
+    (run n (hs ++ (s ∷ [])) (behind + sizeOf s) (stored + 1) held ss)
+    (λ k. refused k (behind + 1))
+
+-- the body lines of a journal
+abbrev pub linesIn : List ℕ → ℕ
+linesIn j = (length j - tableSize) / recordSize
+
+-- the file's refusals, then its statements
+abbrev pub outcomeBy : G.Answer → Outcome → Outcome
+outcomeBy (G.accepted c) o = o
+outcomeBy (G.refused n r) o = refused n r
+
+-- THE DELIVERY: 21 first, then the file's refusals, then its statements in turn
+unfoldable pub outcomeOf : List ℕ → Form → List ℕ → Outcome
+outcomeOf j f b =
+    pick (soundIn j) (outcomeBy (checkOf july f b) (run (linesIn j) (heldOf j) 0 0 0 (statementsOf july f b))) (refused 21 0)
+
+-- the journal's bytes after it: any refusal leaves the whole journal unchanged
+abbrev pub contentBy : List ℕ → Outcome → List ℕ
+contentBy j (delivered ss stored held) = layoutOf (linesIn j) ss
+contentBy j (refused n r) = j
+
+unfoldable pub contentOf : List ℕ → Form → List ℕ → List ℕ
+contentOf j f b = contentBy j (outcomeOf j f b)

@@ -1,0 +1,88 @@
+-- What the code works on: the parts of a file that are to be stored, what they say of a statement, and how they are written into the journal.
+use mathlib.Core.Path.{_≡_}
+use mathlib.Core.Bool.{Bool, false, _||_}
+use mathlib.Core.List.{List, [], _∷_, _++_}
+use Prim.Native.Nat.{ℕ, zero, suc, _+_, _-_, _*_, _<_, _≤_}
+use lib.ListN.{length, take, drop, getD}
+use Rattle.zones.specs.Choice.{pick}
+use Rattle.framing.specs.declared.Form.{Form}
+use Rattle.grammar.specs.Statements.{Statement}
+use Rattle.grammar.specs.Files.{Reads}
+use Rattle.grammar.specs.Parts.{sizeOf}
+use Rattle.records.specs.July.{recordSize, july}
+use Rattle.bodies.specs.Bodies.{bodyOf, sameRecords}
+use Rattle.entries.specs.Entries.{mostEntries, entrySize, lineAt}
+use Rattle.journal_layout.specs.declared.Judgement.{Judgement}
+use Rattle.journal_layout.specs.declared.Judgement.the-variants.{Held}
+use Rattle.journal_layout.specs.Layout.{entryOf}
+use Rattle.journal_layout.specs.Test.{laterOf}
+use Rattle.journal.specs.Delivery.{Verdict, hold, store, refuse, contentOf, outcomeOf}
+use Rattle.journal.specs.declared.Delivery.{Delivery}
+use Rattle.journal.specs.declared.Plan.{Plan}
+use Rattle.journal.specs.Answers.{answerOf}
+
+-- n parts of a file, from the p-th on: each between its two places
+unfoldable pub partsFrom : (n p : ℕ) → (places ends b : List ℕ) → List (List ℕ)
+partsFrom zero p places ends b = []
+partsFrom (suc n) p places ends b =
+    take (getD ends p 0 - getD places p 0) (drop (getD places p 0) b) ∷ partsFrom n (p + 1) places ends b
+
+-- the places of the first n lie in the file, in order
+pub record Inside (n : ℕ) (places ends b : List ℕ) : Type 0 where
+  pub rises : (p : ℕ) → p < n → getD places p 0 ≤ getD ends p 0
+  pub within : (p : ℕ) → p < n → getD ends p 0 ≤ length b
+
+-- what the parts say of a statement, behind what was said before
+unfoldable pub heldIn : Form → List (List ℕ) → List ℕ → Bool
+heldIn f [] s = false
+heldIn f (h ∷ hs) s = sameRecords f h f s || heldIn f hs s
+
+unfoldable pub lastIn : Judgement → Form → List (List ℕ) → List ℕ → Judgement
+lastIn last f [] s = last
+lastIn last f (h ∷ hs) s = lastIn (laterOf last f h s) f hs s
+
+unfoldable pub judgedIn : Judgement → Form → List (List ℕ) → List ℕ → Judgement
+judgedIn last f hs s = pick (heldIn f hs s) Held (lastIn last f hs s)
+
+-- 0 held, 1 to be stored, else the refusal's number
+abbrev pub verdictNumber : Verdict → ℕ
+verdictNumber hold = 0
+verdictNumber store = 1
+verdictNumber (refuse k) = k
+
+-- parts that read as statements, one for one
+abbrev pub Reading : Form → List (List ℕ) → List Statement → Type 0
+Reading f [] [] = Unit
+Reading f [] (s ∷ ss) = ⊥
+Reading f (h ∷ hs) [] = ⊥
+Reading f (h ∷ hs) (s ∷ ss) = Reads july f h (s ∷ []) × Reading f hs ss
+
+-- a statement written into entry e and the lines from k on
+abbrev pub entryWritten : (e k : ℕ) → Statement → List ℕ → List ℕ
+entryWritten e k s j = take (entrySize * e) j ++ (entryOf k s ++ drop (entrySize * e + entrySize) j)
+
+abbrev pub bodyWritten : (k : ℕ) → Statement → List ℕ → List ℕ
+bodyWritten k s j = take (lineAt k) j ++ (bodyOf s ++ drop (lineAt k + recordSize * sizeOf s) j)
+
+unfoldable pub written : (e k : ℕ) → Statement → List ℕ → List ℕ
+written e k s j = bodyWritten k s (entryWritten e k s j)
+
+-- one after another
+unfoldable pub writtenAll : (e k : ℕ) → List Statement → List ℕ → List ℕ
+writtenAll e k [] j = j
+writtenAll e k (s ∷ ss) j = writtenAll (e + 1) (k + sizeOf s) ss (written e k s j)
+
+-- entries and lines for all of them
+abbrev pub Roomy : (e k size : ℕ) → List Statement → Type 0
+Roomy e k size [] = Unit
+Roomy e k size (s ∷ ss) = (e < mostEntries) × (lineAt (k + sizeOf s) ≤ size) × Roomy (e + 1) (k + sizeOf s) size ss
+
+-- A plan: the statements to store, with room for them; and the delivery's answer. Written into the journal they are the delivery's content.
+pub record Planned (j : List ℕ) (f : Form) (b : List ℕ) (r : Plan) : Type 0 where
+  pub list : List Statement
+  pub few : r .count ≤ mostEntries
+  pub inside : Inside (r .count) (r .places) (r .ends) b
+  pub reads : Reading f (partsFrom (r .count) 0 (r .places) (r .ends) b) list
+  pub room : Roomy (r .entry) (r .line) (length j) list
+  pub answer : r .answer ≡ answerOf (outcomeOf j f b)
+  pub content : writtenAll (r .entry) (r .line) list j ≡ contentOf j f b
