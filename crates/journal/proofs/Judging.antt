@@ -20,9 +20,9 @@ use Rattle.entries.specs.Entries.{mostEntries}
 use Rattle.journal_layout.specs.declared.Judgement.{Judgement}
 use Rattle.journal_layout.specs.declared.Judgement.the-variants.{Held}
 use Rattle.journal_layout.specs.Chains.{followsBy}
-use Rattle.journal_layout.specs.Test.{laterOf}
+use Rattle.journal_layout.specs.Test.{laterOf, judgedBy}
 use Rattle.journal.specs.Delivery.{isHeld, verdictBy}
-use Rattle.journal.specs.Plans.{partsFrom, heldIn, lastIn, judgedIn, verdictNumber}
+use Rattle.journal.specs.Plans.{partsFrom, heldIn, lastIn, judgedIn, judgedAll, verdictNumber}
 
 module _ (last : Judgement) (f : Form) (b places ends : List ℕ) (count : ℕ) (s : List ℕ) where
   abbrev whole : Judgement
@@ -88,3 +88,13 @@ module _ (j : Judgement) (o : List ℕ) (entries left size : ℕ) where
 
       pub stored : entries < mostEntries → size ≤ left → 1 ≡ number
       stored m d = sym (rw (← p, h, ← value, not-false u n, lt-ltb entries mostEntries m, le-leb size left d))
+
+-- `judged_all` at its returns
+module _ (j : List ℕ) (held : ℕ) (f : Form) (hs : List (List ℕ)) (s : List ℕ) {last : Judgement} (p : last ≡ judgedBy j held f s) {t : Bool} (q : t ≡ isHeld last) where
+  pub held-already : t ≡ true → Held ≡ judgedAll j held f hs s
+  unfolding judgedAll
+  held-already h = sym (rw (← p, ← q, h))
+
+  pub planned-says : {r : Judgement} → t ≡ false → r ≡ judgedIn last f hs s → r ≡ judgedAll j held f hs s
+  unfolding judgedAll
+  planned-says h e = e ∙ sym (rw (← p, ← q, h))

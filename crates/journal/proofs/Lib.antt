@@ -1,1 +1,5 @@
 pub mod Judging
+pub mod Values
+pub mod Written
+pub mod Turning
+pub mod Dry

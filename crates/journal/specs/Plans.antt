@@ -3,11 +3,12 @@ use mathlib.Core.Path.{_≡_}
 use mathlib.Core.Bool.{Bool, false, _||_}
 use mathlib.Core.List.{List, [], _∷_, _++_}
 use Prim.Native.Nat.{ℕ, zero, suc, _+_, _-_, _*_, _<_, _≤_}
-use lib.ListN.{length, take, drop, getD}
+use lib.ListN.{length, take, drop, getD, replicate}
 use Rattle.zones.specs.Choice.{pick}
 use Rattle.framing.specs.declared.Form.{Form}
+use Rattle.grammar.specs.Answer.{Counts, accepted}
 use Rattle.grammar.specs.Statements.{Statement}
-use Rattle.grammar.specs.Files.{Reads}
+use Rattle.grammar.specs.Files.{Reads, checkOf}
 use Rattle.grammar.specs.Parts.{sizeOf}
 use Rattle.records.specs.July.{recordSize, july}
 use Rattle.bodies.specs.Bodies.{bodyOf, sameRecords}
@@ -15,9 +16,9 @@ use Rattle.entries.specs.Entries.{mostEntries, entrySize, lineAt}
 use Rattle.journal_layout.specs.declared.Judgement.{Judgement}
 use Rattle.journal_layout.specs.declared.Judgement.the-variants.{Held}
 use Rattle.journal_layout.specs.Layout.{entryOf}
-use Rattle.journal_layout.specs.Test.{laterOf}
-use Rattle.journal.specs.Delivery.{Verdict, hold, store, refuse, contentOf, outcomeOf}
-use Rattle.journal.specs.declared.Delivery.{Delivery}
+use Rattle.journal_layout.specs.Test.{laterOf, judgedBy}
+use Rattle.journal.specs.Delivery.{Verdict, hold, store, refuse, isHeld, contentOf, outcomeOf}
+use Rattle.journal.specs.declared.Delivery.the-variants.{Refused}
 use Rattle.journal.specs.declared.Plan.{Plan}
 use Rattle.journal.specs.Answers.{answerOf}
 
@@ -43,6 +44,10 @@ lastIn last f (h ∷ hs) s = lastIn (laterOf last f h s) f hs s
 
 unfoldable pub judgedIn : Judgement → Form → List (List ℕ) → List ℕ → Judgement
 judgedIn last f hs s = pick (heldIn f hs s) Held (lastIn last f hs s)
+
+-- what the held statements, so many, and then the parts say of a statement
+unfoldable pub judgedAll : List ℕ → (held : ℕ) → Form → List (List ℕ) → List ℕ → Judgement
+judgedAll j held f hs s = pick (isHeld (judgedBy j held f s)) Held (judgedIn (judgedBy j held f s) f hs s)
 
 -- 0 held, 1 to be stored, else the refusal's number
 abbrev pub verdictNumber : Verdict → ℕ
@@ -77,12 +82,26 @@ abbrev pub Roomy : (e k size : ℕ) → List Statement → Type 0
 Roomy e k size [] = Unit
 Roomy e k size (s ∷ ss) = (e < mostEntries) × (lineAt (k + sizeOf s) ≤ size) × Roomy (e + 1) (k + sizeOf s) size ss
 
+-- an accepted file
+pub record Accepts (f : Form) (b : List ℕ) : Type 0 where
+  pub counts : Counts
+  pub yes : checkOf july f b ≡ accepted counts
+
+-- the plan of a refusal
+abbrev pub refusedPlan : (number at : ℕ) → Plan
+refusedPlan n r =
+    record { count = 0; places = replicate mostEntries 0; ends = replicate mostEntries 0; entry = 0; line = 0; answer = Refused n r }
+
+-- parts that can be written from an entry and a line on
+pub record Storable (j : List ℕ) (f : Form) (b places ends : List ℕ) (count entry line : ℕ) : Type 0 where
+  pub list : List Statement
+  pub named : (count ≤ length places) × (count ≤ length ends)
+  pub inside : Inside count places ends b
+  pub reads : Reading f (partsFrom count 0 places ends b) list
+  pub room : Roomy entry line (length j) list
+
 -- A plan: the statements to store, with room for them; and the delivery's answer. Written into the journal they are the delivery's content.
 pub record Planned (j : List ℕ) (f : Form) (b : List ℕ) (r : Plan) : Type 0 where
-  pub list : List Statement
-  pub few : r .count ≤ mostEntries
-  pub inside : Inside (r .count) (r .places) (r .ends) b
-  pub reads : Reading f (partsFrom (r .count) 0 (r .places) (r .ends) b) list
-  pub room : Roomy (r .entry) (r .line) (length j) list
+  pub storable : Storable j f b (r .places) (r .ends) (r .count) (r .entry) (r .line)
   pub answer : r .answer ≡ answerOf (outcomeOf j f b)
-  pub content : writtenAll (r .entry) (r .line) list j ≡ contentOf j f b
+  pub content : writtenAll (r .entry) (r .line) (storable .list) j ≡ contentOf j f b

@@ -1,10 +1,12 @@
 // The journal: a file delivered to it. A dry run judges every statement and plans what to store; only a plan without a refusal is written.
 ghost use mathlib.Core.Path.{_≡_};
+ghost use mathlib.Core.Bool.{true};
 ghost use Prim.Native.Nat.{_+_, _*_, _<_, _≤_};
 ghost use lib.ListN.{length};
 ghost use Rattle.records.specs.Looks.{lookOf};
 ghost use Rattle.journal.specs.Delivery.{isHeld, verdictBy};
-ghost use Rattle.journal.specs.Plans.{partsFrom, Inside, judgedIn, verdictNumber};
+ghost use Rattle.journal_layout.specs.Test.{soundIn};
+ghost use Rattle.journal.specs.Plans.{partsFrom, Inside, judgedIn, judgedAll, verdictNumber, Accepts, refusedPlan, Planned};
 use framing::Form;
 use journal_layout::Judgement;
 
@@ -57,6 +59,18 @@ fn is_held(judgement: Judgement) -> bool
     }
 }
 
+// What the held statements, so many, and the planned ones say of another one.
+fn judged_all(journal: &[u8], held: usize, form: Form, file: &[u8], places: &[u32], ends: &[u32], count: usize, s: &[u8]) -> Judgement
+    requires { ⌜ (count ≤ length (now places)) × (count ≤ length (now ends)) × Inside count (now places) (now ends) (now file) ⌝ }
+    ensures { λ r. ⌜ r ≡ judgedAll (now (journal .entry)) held form (partsFrom count 0 (now (places .entry)) (now (ends .entry)) (now (file .entry))) (now (s .entry)) ⌝ }
+{
+    let last = journal_layout::judged(journal, held, form, s);
+    if is_held(last) {
+        return Judgement::Held;
+    }
+    judged_planned(last, form, file, places, ends, count, s)
+}
+
 // What becomes of a statement: 0 held, 1 to be stored, else the refusal's number.
 fn verdict(judgement: Judgement, opening: &[u8], entries: usize, left: usize, size: usize) -> u64
     ensures { λ v. ⌜ v ≡ verdictNumber (verdictBy judgement (lookOf (now (opening .entry)) .day) (lookOf (now (opening .entry)) .amount) entries left size) ⌝ }
@@ -75,4 +89,64 @@ fn verdict(judgement: Judgement, opening: &[u8], entries: usize, left: usize, si
         return 24;
     }
     1
+}
+
+// The plan of a refusal stores nothing.
+fn refused_plan(number: u64, record: u64) -> Plan
+    ensures { λ r. ⌜ r ≡ refusedPlan number «record» ⌝ }
+{
+    Plan {
+        count: 0,
+        places: [0u32; 128],
+        ends: [0u32; 128],
+        entry: 0,
+        line: 0,
+        answer: Delivery::Refused { number, record },
+    }
+}
+
+// The statements of an accepted file in turn, on what a sound journal holds and what is planned so far.
+fn dry_run(journal: &[u8], form: Form, file: &[u8]) -> Plan
+    requires { ⌜ (soundIn (now journal) ≡ true) × Accepts form (now file) ⌝ }
+    ensures { λ r. ⌜ Planned (now (journal .entry)) form (now (file .entry)) r ⌝ }
+{
+    let free = journal_layout::first_free(journal);
+    let lines = (journal.len() - 7680) / 120;
+    let width = 120 + form.line_end as usize;
+    let mut places = [0u32; 128];
+    let mut ends = [0u32; 128];
+    let mut count: usize = 0;
+    let mut taken = free.line;
+    let mut held: u64 = 0;
+    let mut at: usize = 0;
+    while at < file.len() {
+        let end = readers::statement_end(form, file, at);
+        let s = &file[at..end];
+        let size = (end - at) / width;
+        let judgement = judged_all(journal, free.entry, form, file, &places, &ends, count, s);
+        let v = verdict(judgement, contents::record_at(s, 0), free.entry + count, lines - taken, size);
+        if 1 < v {
+            return refused_plan(v, (at / width + 1) as u64);
+        }
+        if v == 1 {
+            places[count] = at as u32;
+            ends[count] = end as u32;
+            count += 1;
+            taken += size;
+        } else {
+            held += 1;
+        }
+        at = end;
+    }
+    Plan {
+        count,
+        places,
+        ends,
+        entry: free.entry,
+        line: free.line,
+        answer: Delivery::Done {
+            stored: count as u64,
+            held,
+        },
+    }
 }

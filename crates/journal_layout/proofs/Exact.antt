@@ -168,7 +168,7 @@ module _ {j : List ℕ} {ss : List Statement} (g : Journal j ss) where
       let r = g .kept .room in
       omega (arith, length-append (bodiesOf ss) (replicate (recordSize * (g .lines - linesOf ss)) 32), length-bodies ss (g .kept .alone), length-replicate {A = ℕ} (recordSize * (g .lines - linesOf ss)) 32)
 
-  journal-length : length j ≡ tableSize + recordSize * g .lines
+  pub journal-length : length j ≡ tableSize + recordSize * g .lines
   unfolding layoutOf
   journal-length = ap length (g .layout) ∙ length-append entriesPart linesPart ∙ ap₂ _+_ table-length lines-length
 
@@ -287,7 +287,7 @@ there {j} H t B g =
       body = rw m at (there-body g (length H) l);
     }
 
-one-lines : (t : Statement) (k : ℕ) → k + linesOf (t ∷ []) ≡ k + sizeOf t
+pub one-lines : (t : Statement) (k : ℕ) → k + linesOf (t ∷ []) ≡ k + sizeOf t
 unfolding linesOf
 one-lines t k = omega arith
 

@@ -1,0 +1,332 @@
+-- The dry run: what the loop keeps, and one law for each way out of a turn.
+use mathlib.Core.Path.{_≡_, refl, sym, ap, ap₂, _∙_}
+use mathlib.Core.Bool.{Bool, true, false}
+use mathlib.Core.List.{List, [], _∷_, _++_, append-assoc, append-nil}
+use Prim.Native.Nat.{ℕ, zero, suc, _+_, _-_, _*_, _/_, _<_, _≤_}
+use native.Mathlib.Nat.{add-zero, zero-add}
+use native.Mathlib.Numerals.{add-one}
+use native.Mathlib.Omega.{arith}
+use lib.Dec.{eqb}
+use lib.ListN.{length, take, drop, getD, set, replicate, length-append, length-set}
+use lib.Seq.{drop-cons, drop-length}
+use borrow.Author.Tests.{eqb-true, eqb-false, ltb-false}
+use Rattle.zones.specs.Choice.{pick}
+use Rattle.framing.specs.declared.Form.{Form}
+use Rattle.framing.specs.Files.{All, lineEnd, widthOf}
+use Rattle.grammar.specs.Statements.{Statement}
+use Rattle.grammar.specs.Files.{Reads, Writable, statementsOf, checkOf}
+use Rattle.grammar.specs.Parts.{sizeOf, recordsBefore, nothing}
+use Rattle.records.specs.July.{recordSize, july}
+use Rattle.records.proofs.Theorems.{reads}
+use Rattle.records.specs.Looks.{lookOf}
+use Rattle.readers.specs.Places.{endAfter}
+use Rattle.readers.proofs.Rows.{before-next}
+use Rattle.contents.specs.Heads.{recordAtOf}
+use Rattle.bodies.proofs.Single.{reads-writable}
+use Rattle.entries.specs.Entries.{mostEntries, tableSize, lineAt}
+use Rattle.journal_layout.specs.declared.Free.{Free}
+use Rattle.journal_layout.specs.declared.Judgement.{Judgement}
+use Rattle.journal_layout.specs.Layout.{linesOf, layoutOf, Journal}
+use Rattle.journal_layout.specs.Test.{soundIn, heldOf, freeIn}
+use Rattle.journal_layout.proofs.Holding.{Holding}
+use Rattle.journal_layout.proofs.Adding.{lines-append}
+use Rattle.journal_layout.proofs.Exact.{one-lines, journal-length, journal-held, sound-journal}
+use Rattle.journal_layout.proofs.Freeing.{free-is}
+use Rattle.journal.specs.declared.Delivery.the-variants.{Done, Refused}
+use Rattle.journal.specs.Delivery.{Verdict, hold, store, refuse, verdictBy, verdictOf, Outcome, delivered, refused, proceed, run, linesIn, outcomeOf, contentBy, contentOf}
+use Rattle.journal.specs.Answers.{answerOf}
+use Rattle.journal.specs.Plans.{partsFrom, Inside, judgedAll, verdictNumber, Reading, writtenAll, Roomy, Accepts, refusedPlan, Storable, Planned}
+use Rattle.journal.proofs.Values.{verdict-value, is-hold, is-store, is-refuse, has-room}
+use Rattle.journal.proofs.Written.{layout-all}
+use Rattle.journal.proofs.Turning.{file-small, Turn, turn, last-turn}
+
+-- ---- one part more
+
+getD-other : (l : List ℕ) (i j x : ℕ) → i < j → getD (set l j x) i 0 ≡ getD l i 0
+getD-other [] i j x h = refl
+getD-other (y ∷ l) zero zero x h = absurd (omega arith)
+getD-other (y ∷ l) zero (suc j) x h = refl
+getD-other (y ∷ l) (suc i) zero x h = absurd (omega arith)
+getD-other (y ∷ l) (suc i) (suc j) x h = getD-other l i j x (omega arith)
+
+getD-there : (l : List ℕ) (i x : ℕ) → i < length l → getD (set l i x) i 0 ≡ x
+getD-there [] i x h = absurd (omega arith)
+getD-there (y ∷ l) zero x h = refl
+getD-there (y ∷ l) (suc i) x h = getD-there l i x (omega arith)
+
+-- the parts before it stay
+parts-kept : (n p k : ℕ) (places ends b : List ℕ) (x y : ℕ) → p + n ≤ k → partsFrom n p (set places k x) (set ends k y) b ≡ partsFrom n p places ends b
+unfolding partsFrom
+parts-kept zero p k places ends b x y h = refl
+parts-kept (suc n) p k places ends b x y h =
+    ap₂ _∷_ (rw (getD-other places p k x (omega arith), getD-other ends p k y (omega arith))) (parts-kept n (p + 1) k places ends b x y (omega arith))
+
+parts-snoc : (n p : ℕ) (places ends b : List ℕ) → partsFrom (suc n) p places ends b
+    ≡ partsFrom n p places ends b ++ (take (getD ends (p + n) 0 - getD places (p + n) 0) (drop (getD places (p + n) 0) b) ∷ [])
+unfolding partsFrom
+parts-snoc zero p places ends b = rw (add-zero p)
+parts-snoc (suc n) p places ends b =
+    let z : p + 1 + n ≡ p + suc n = omega arith in
+    ap (λ l. take (getD ends p 0 - getD places p 0) (drop (getD places p 0) b) ∷ l) (rw z at (parts-snoc n (p + 1) places ends b))
+
+reading-snoc : (f : Form) (hs : List (List ℕ)) (P : List Statement) (h : List ℕ) (s : Statement) → Reading f hs P → Reads july f h (s ∷ [])
+    → Reading f (hs ++ (h ∷ [])) (P ++ (s ∷ []))
+reading-snoc f [] [] h s r q = (q, tt)
+reading-snoc f [] (t ∷ P) h s r q = absurd r
+reading-snoc f (x ∷ hs) [] h s r q = absurd r
+reading-snoc f (x ∷ hs) (t ∷ P) h s r q = (r .0, reading-snoc f hs P h s (r .1) q)
+
+-- one more part, at its two places
+inside-snoc : {n : ℕ} {places ends b : List ℕ} {x y : ℕ} → Inside n places ends b → n < length places → n < length ends → x ≤ y → y ≤ length b
+    → Inside (n + 1) (set places n x) (set ends n y) b
+inside-snoc {n} {places} {ends} {b} {x} {y} i p q l m =
+    record { rises = λ k h. rises k h (eqb k n) refl; within = λ k h. within k h (eqb k n) refl }
+  where
+    rises : (k : ℕ) → k < n + 1 → (t : Bool) → eqb k n ≡ t → getD (set places n x) k 0 ≤ getD (set ends n y) k 0
+    rises k h true e = rw (eqb-true k n e, getD-there places n x p, getD-there ends n y q) l
+    rises k h false e =
+        let c = eqb-false k n e in
+        rw (getD-other places k n x (omega arith), getD-other ends k n y (omega arith)) (i .rises k (omega arith))
+
+    within : (k : ℕ) → k < n + 1 → (t : Bool) → eqb k n ≡ t → getD (set ends n y) k 0 ≤ length b
+    within k h true e = rw (eqb-true k n e, getD-there ends n y q) m
+    within k h false e = let c = eqb-false k n e in rw (getD-other ends k n y (omega arith)) (i .within k (omega arith))
+
+parts-read : (f : Form) (n : ℕ) (places ends b : List ℕ) (x y : ℕ) (P : List Statement) (s : Statement) → Reading f (partsFrom n 0 places ends b) P
+    → n < length places → n < length ends → Reads july f (take (y - x) (drop x b)) (s ∷ []) → Reading f (partsFrom (n + 1) 0 (set places n x) (set ends n y) b) (P ++ (s ∷ []))
+parts-read f n places ends b x y P s r p q h =
+    let a = getD-there places n x p in
+    let c = getD-there ends n y q in
+    rw (add-one n, parts-snoc n 0 (set places n x) (set ends n y) b, parts-kept n 0 n places ends b x y (omega arith), zero-add n, a, c)
+    (reading-snoc f (partsFrom n 0 places ends b) P (take (y - x) (drop x b)) s r h)
+
+roomy-snoc : (e k size : ℕ) (P : List Statement) (s : Statement) → Roomy e k size P → e + length P < mostEntries → lineAt (k + linesOf P + sizeOf s) ≤ size
+    → Roomy e k size (P ++ (s ∷ []))
+unfolding linesOf
+roomy-snoc e k size [] s r h l = (omega arith, omega arith, tt)
+roomy-snoc e k size (t ∷ P) s r h l = (r .0, r .1, roomy-snoc (e + 1) (k + sizeOf t) size P s (r .2) (omega arith) (omega arith))
+
+reading-writable : (f : Form) (hs : List (List ℕ)) (P : List Statement) → Reading f hs P → All (Writable july) P
+reading-writable f [] [] r = tt
+reading-writable f [] (s ∷ P) r = absurd r
+reading-writable f (h ∷ hs) [] r = absurd r
+reading-writable f (h ∷ hs) (s ∷ P) r = (reads-writable (r .0), reading-writable f hs P (r .1))
+
+-- ---- the run
+
+module _ (j : List ℕ) (f : Form) (b : List ℕ) where
+  abbrev H : List Statement
+  H = heldOf j
+
+  abbrev S : List Statement
+  S = statementsOf july f b
+
+  abbrev n : ℕ
+  n = linesIn j
+
+  -- i statements are behind, those of P are planned
+  pub record Dry (places ends : List ℕ) (count taken held at : ℕ) : Type 0 where
+    pub i : ℕ
+    pub P : List Statement
+    pub upto : i ≤ length S
+    pub place : at ≡ recordsBefore i S * widthOf recordSize f
+    pub planned : length P ≡ count
+    pub named : (length places ≡ mostEntries) × (length ends ≡ mostEntries)
+    pub few : length H + count ≤ mostEntries
+    pub lines : taken ≡ linesOf (H ++ P)
+    pub room : taken ≤ n
+    pub inside : Inside count places ends b
+    pub reads : Reading f (partsFrom count 0 places ends b) P
+    pub roomy : Roomy (length H) (linesOf H) (length j) P
+    pub helds : held ≤ at
+    pub rest : run n (H ++ P) (recordsBefore i S) count held (drop i S) ≡ run n H 0 0 0 S
+
+  module _ (sound : soundIn j ≡ true) (yes : Accepts f b) where
+    pub journal : Journal j H
+    journal = sound-journal j sound
+
+    pub file : Reads july f b S
+    file = reads f b (yes .yes)
+
+    outcome : outcomeOf j f b ≡ run n H 0 0 0 S
+    unfolding outcomeOf
+    outcome = rw (sound, yes .yes)
+
+    -- what is small
+    pub known-end : lineEnd f ≤ 2
+    known-end = ltb-false 2 (lineEnd f) (file .line)
+
+    pub file-short : length b ≤ 2440000
+    file-short = file-small file
+
+    pub free-there : {x : Free} → x ≡ freeIn j → (x .entry ≡ length H) × (x .line ≡ linesOf H)
+    free-there e = let q = e ∙ free-is journal in (ap (λ y. y .entry) q, ap (λ y. y .line) q)
+
+    -- the journal's lines
+    pub journal-lines : length j ≡ tableSize + recordSize * n
+    journal-lines = let l = journal-length journal in omega arith
+
+    pub begins : Dry (replicate mostEntries 0) (replicate mostEntries 0) 0 (linesOf H) 0 0
+    unfolding recordsBefore partsFrom
+    begins =
+        let l = journal-lines in
+        let k = journal .kept in
+        let r = journal-held journal .holding .room in
+        record {
+          i = 0;
+          P = [];
+          upto = omega arith;
+          place = omega arith;
+          planned = refl;
+          named = (refl, refl);
+          few = let x = k .few in omega arith;
+          lines = rw (append-nil H);
+          room = omega arith;
+          inside = record { rises = λ p h. absurd (omega arith); within = λ p h. absurd (omega arith) };
+          reads = tt;
+          roomy = tt;
+          helds = omega arith;
+          rest = rw (append-nil H);
+        }
+
+    journal-layout : j ≡ layoutOf n H
+    journal-layout =
+        let l = journal-length journal in
+        let z : journal .lines ≡ n = omega arith in
+        journal .layout ∙ ap (λ (m : ℕ). layoutOf m H) z
+
+    module _ {places ends : List ℕ} {count taken held at : ℕ} (d : Dry places ends count taken held at) where
+      abbrev P : List Statement
+      P = d .P
+
+      -- the file is at its end
+      pub ends-there : length b ≤ at → Planned j f b
+          (record { count = count; places = places; ends = ends; entry = length H; line = linesOf H; answer = Done count held })
+      unfolding contentOf run
+      ends-there l =
+          let e = last-turn file (d .upto) (d .place) l in
+          let q : drop (d .i) S ≡ [] = ap (λ (m : ℕ). drop m S) e ∙ drop-length S in
+          let o : outcomeOf j f b ≡ delivered (H ++ P) count held = outcome ∙ sym (d .rest) ∙ ap (run n (H ++ P) (recordsBefore (d .i) S) count held) q in
+          let m = d .named in
+          let k = d .few in
+          record {
+            storable =
+                record {
+                  list = P;
+                  named = (let x = m .0 in omega arith, let x = m .1 in omega arith);
+                  inside = d .inside;
+                  reads = d .reads;
+                  room = d .roomy;
+                };
+            answer = sym (ap answerOf o);
+            content = ap (writtenAll (length H) (linesOf H) P) journal-layout
+                ∙ layout-all n H P (journal .kept .alone) (reading-writable f (partsFrom count 0 places ends b) P (d .reads)) (length j) journal-lines (d .roomy)
+                ∙ sym (ap (contentBy j) o);
+          }
+
+      -- one statement more
+      pub turn-there : {end : ℕ} → at < length b → end ≡ endAfter f b at → Turn f b S (d .i) at end
+      turn-there l e = turn file (d .upto) (d .place) l e
+
+      -- what the code's verdict is
+      pub verdict-there : {end entry v : ℕ} {g : Judgement} {o : List ℕ} → Turn f b S (d .i) at end → entry ≡ length H
+          → g ≡ judgedAll j entry f (partsFrom count 0 places ends b) (take (end - at) (drop at b)) → o ≡ recordAtOf (take (end - at) (drop at b)) 0
+          → v ≡ verdictNumber (verdictBy g (lookOf o .day) (lookOf o .amount) (entry + count) (n - taken) ((end - at) / widthOf recordSize f))
+          → v ≡ verdictNumber (verdictOf n (H ++ P) (getD S (d .i) nothing))
+      verdict-there {end} {entry} {v} {g} {o} x e p q y =
+          let c = d .planned in
+          let l = length-append H P in
+          y
+          ∙ ap verdictNumber
+          (verdict-value (x .reads) (partsFrom count 0 places ends b) P n (entry + count) (n - taken) ((end - at) / widthOf recordSize f)
+          (journal-held journal .holding) (d .reads) (rw e at p) q (omega arith) (ap (λ (m : ℕ). n - m) (d .lines)) (x .size))
+
+      -- its verdict
+      module _ {end : ℕ} (g : Turn f b S (d .i) at end) {v : ℕ} (p : v ≡ verdictNumber (verdictOf n (H ++ P) (getD S (d .i) nothing))) where
+        abbrev i : ℕ
+        i = d .i
+
+        abbrev s : Statement
+        s = getD S i nothing
+
+        step : proceed (verdictOf n (H ++ P) s)
+            (run n (H ++ P) (recordsBefore i S + sizeOf s) count (held + 1) (drop (suc i) S))
+            (run n ((H ++ P) ++ (s ∷ [])) (recordsBefore i S + sizeOf s) (count + 1) held (drop (suc i) S))
+            (λ k. refused k (recordsBefore i S + 1))
+            ≡ run n H 0 0 0 S
+        unfolding run
+        step = rw (drop-cons S i nothing (g .index)) at (d .rest)
+
+        -- refused: nothing is stored
+        pub refused-there : 1 < v → Planned j f b (refusedPlan v (at / widthOf recordSize f + 1))
+        unfolding contentOf partsFrom writtenAll
+        refused-there h =
+            let y : verdictOf n (H ++ P) s ≡ refuse v = rw p (is-refuse n (H ++ P) s (rw p at h)) in
+            let o : outcomeOf j f b ≡ refused v (recordsBefore i S + 1) = outcome ∙ sym (rw y at step) in
+            record {
+              storable =
+                  record {
+                    list = [];
+                    named = (omega arith, omega arith);
+                    inside = record { rises = λ q h. absurd (omega arith); within = λ q h. absurd (omega arith) };
+                    reads = tt;
+                    room = tt;
+                  };
+              answer = sym (ap answerOf o ∙ ap (λ (m : ℕ). Refused v (m + 1)) (sym (g .behind)));
+              content = sym (ap (contentBy j) o);
+            }
+
+        -- held: one more is held
+        pub held-there : v ≡ 0 → Dry places ends count taken (held + 1) end
+        held-there h =
+            let y : verdictOf n (H ++ P) s ≡ hold = is-hold n (H ++ P) s (sym p ∙ h) in
+            let x = g .index in
+            record {
+              i = i + 1;
+              P = P;
+              upto = omega arith;
+              place = g .next;
+              planned = d .planned;
+              named = d .named;
+              few = d .few;
+              lines = d .lines;
+              room = d .room;
+              inside = d .inside;
+              reads = d .reads;
+              roomy = d .roomy;
+              helds = let z = d .helds in let r = g .rises in omega arith;
+              rest = rw (before-next i S x, add-one i) (rw y at step);
+            }
+
+        -- stored: it is planned behind the others
+        pub stored-there : v ≡ 1 → Dry (set places count at) (set ends count end) (count + 1) (taken + (end - at) / widthOf recordSize f) held end
+        stored-there h =
+            let y : verdictOf n (H ++ P) s ≡ store = is-store n (H ++ P) s (sym p ∙ h) in
+            let o = has-room n (H ++ P) s y in
+            let x = g .index in
+            let c = d .planned in
+            let m = d .named in
+            let m0 = m .0 in
+            let m1 = m .1 in
+            let q = length-append H P in
+            let u : length (H ++ P) < mostEntries = o .0 in
+            let l : sizeOf s ≤ n - linesOf (H ++ P) = o .1 in
+            let k : taken ≡ linesOf (H ++ P) = d .lines in
+            let w = lines-append H P in
+            let z : (end - at) / widthOf recordSize f ≡ sizeOf s = g .size in
+            record {
+              i = i + 1;
+              P = P ++ (s ∷ []);
+              upto = omega arith;
+              place = g .next;
+              planned = length-append P (s ∷ []) ∙ ap (λ (v : ℕ). v + 1) c;
+              named = (length-set places count at ∙ m0, length-set ends count end ∙ m1);
+              few = omega arith;
+              lines = ap₂ _+_ k z ∙ sym (lines-append (H ++ P) (s ∷ []) ∙ one-lines s (linesOf (H ++ P))) ∙ ap linesOf (append-assoc H P (s ∷ []));
+              room = let r = d .room in omega arith;
+              inside = inside-snoc (d .inside) (omega arith) (omega arith) (let r = g .rises in omega arith) (g .within);
+              reads = parts-read f count places ends b at end P s (d .reads) (omega arith) (omega arith) (g .reads);
+              roomy = roomy-snoc (length H) (linesOf H) (length j) P s (d .roomy) (omega arith) (let v = journal-lines in omega arith);
+              helds = let v = d .helds in let r = g .rises in omega arith;
+              rest = rw (before-next i S x, add-one i, ← append-assoc H P (s ∷ [])) (rw y at step);
+            }

@@ -1,0 +1,88 @@
+-- One statement of an accepted file after another: its place, its part, and the place after it.
+use mathlib.Core.Path.{_≡_, refl, sym, ap, _∙_}
+use mathlib.Core.Bool.{Bool, true, false}
+use mathlib.Core.List.{List, [], _∷_, map}
+use Prim.Native.Nat.{ℕ, suc, _+_, _-_, _*_, _/_, _<_, _≤_}
+use native.Mathlib.Nat.{add-mul, add-sub-cancel-left, mul-div-cancel, mul-le-mul-right}
+use native.Mathlib.Omega.{arith}
+use lib.Dec.{eqb}
+use lib.ListN.{length, take, drop, getD, length-map}
+use borrow.Author.Tests.{ltb-false, eqb-true, eqb-false}
+use Rattle.framing.specs.declared.Form.{Form}
+use Rattle.framing.specs.Files.{lineEnd, widthOf, fileOf, pieceOf}
+use Rattle.framing.proofs.Cuts.{length-flat}
+use Rattle.grammar.specs.Statements.{Statement, allRecords}
+use Rattle.grammar.specs.Files.{layoutOf, Reads}
+use Rattle.grammar.specs.Parts.{sizeOf, recordsBefore, nothing}
+use Rattle.grammar.proofs.Seam.{piecesFor, wide-pieces}
+use Rattle.records.specs.July.{recordSize, mostInFile, july, july2004, encodeRecord}
+use Rattle.records.proofs.Lawful.{july-lawful}
+use Rattle.records.proofs.Theorems.{part-reads}
+use Rattle.readers.specs.Places.{endAfter}
+use Rattle.readers.proofs.Cursor.{cursor}
+use Rattle.readers.proofs.Placed.{before-inside}
+use Rattle.readers.proofs.Rows.{some, before-next}
+use Rattle.readers.proofs.Turns.{before-end, after-last, between}
+
+-- an accepted file is not long
+pub file-small : {f : Form} {b : List ℕ} {ss : List Statement} → Reads july f b ss → length b ≤ 2440000
+unfolding layoutOf fileOf widthOf
+file-small {f} {b} {ss} r =
+    let rs = allRecords july2004 ss in
+    let n : length (piecesFor july f rs) ≡ length rs = length-map (map encodeRecord rs) (pieceOf f) ∙ length-map rs encodeRecord in
+    let l : length b ≡ length rs * (recordSize + lineEnd f) =
+    sym (ap length (r .layout)) ∙ length-flat (recordSize + lineEnd f) (piecesFor july f rs) (wide-pieces july f july-lawful (r .line) rs (r .ok)) ∙ ap (λ (m : ℕ). m * (recordSize + lineEnd f)) n in
+    let m : length rs * (recordSize + lineEnd f) ≤ mostInFile * (recordSize + lineEnd f) = mul-le-mul-right (recordSize + lineEnd f) (r .few) in
+    let e = ltb-false 2 (lineEnd f) (r .line) in
+    omega arith
+
+-- what a turn of the loop knows: statement i, from 0, of those of the file
+pub record Turn (f : Form) (b : List ℕ) (ss : List Statement) (i at end : ℕ) : Type 0 where
+  pub index : i < length ss
+  pub next : end ≡ recordsBefore (i + 1) ss * widthOf recordSize f
+  pub rises : at < end
+  pub within : end ≤ length b
+  pub reads : Reads july f (take (end - at) (drop at b)) (getD ss i nothing ∷ [])
+  pub size : (end - at) / widthOf recordSize f ≡ sizeOf (getD ss i nothing)
+  pub behind : at / widthOf recordSize f ≡ recordsBefore i ss
+
+module _ {f : Form} {b : List ℕ} {ss : List Statement} (r : Reads july f b ss) where
+  -- the place of statement i
+  abbrev pub At : ℕ → ℕ → Type 0
+  At i at = at ≡ recordsBefore i ss * widthOf recordSize f
+
+  -- before the end of the file there is one more
+  one-more : {i at : ℕ} → i ≤ length ss → At i at → at < length b → i < length ss
+  one-more {i} {at} u p l = by (eqb i (length ss)) refl
+    where
+      by : (t : Bool) → eqb i (length ss) ≡ t → i < length ss
+      by true q = absurd (let z : at ≡ length b = p ∙ ap (λ (m : ℕ). recordsBefore m ss * widthOf recordSize f) (eqb-true i (length ss) q) ∙ after-last r in omega arith)
+      by false q = let n = eqb-false i (length ss) q in omega arith
+
+  pub turn : {i at end : ℕ} → i ≤ length ss → At i at → at < length b → end ≡ endAfter f b at → Turn f b ss i at end
+  turn {i} {at} {end} u p l e =
+      let w = widthOf recordSize f in
+      let m = recordsBefore i ss in
+      let n = sizeOf (getD ss i nothing) in
+      let h : i < length ss = one-more u p l in
+      let c : end ≡ recordsBefore (i + 1) ss * w = e ∙ ap (endAfter f b) p ∙ cursor r i h in
+      let d : recordsBefore (i + 1) ss * w ≡ m * w + n * w = rw (before-next i ss h) (add-mul m n w) in
+      let k : 2 * w ≤ n * w = mul-le-mul-right w (omega arith) in
+      let z : end - at ≡ n * w = omega arith in
+      record {
+        index = h;
+        next = c;
+        rises = omega (arith, some f);
+        within = rw c (before-inside r (i + 1) (omega arith));
+        reads = rw (e, p, between r i h) (part-reads r i h);
+        size = rw z (mul-div-cancel n (some f));
+        behind = rw p (mul-div-cancel m (some f));
+      }
+
+  -- the end of the file is the end of its statements
+  pub last-turn : {i at : ℕ} → i ≤ length ss → At i at → length b ≤ at → i ≡ length ss
+  last-turn {i} {at} u p l = by (eqb i (length ss)) refl
+    where
+      by : (t : Bool) → eqb i (length ss) ≡ t → i ≡ length ss
+      by true q = eqb-true i (length ss) q
+      by false q = absurd (let n = eqb-false i (length ss) q in let h = before-end r i (omega arith) in omega arith)
