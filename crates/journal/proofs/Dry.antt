@@ -1,6 +1,6 @@
 -- The dry run: what the loop keeps, and one law for each way out of a turn.
 use mathlib.Core.Path.{_≡_, refl, sym, ap, ap₂, _∙_}
-use mathlib.Core.Bool.{Bool, true, false}
+use mathlib.Core.Bool.{Bool, true, false, not}
 use mathlib.Core.List.{List, [], _∷_, _++_, append-assoc, append-nil}
 use Prim.Native.Nat.{ℕ, zero, suc, _+_, _-_, _*_, _/_, _<_, _≤_}
 use native.Mathlib.Nat.{add-zero, zero-add}
@@ -9,16 +9,19 @@ use native.Mathlib.Omega.{arith}
 use lib.Dec.{eqb}
 use lib.ListN.{length, take, drop, getD, set, replicate, length-append, length-set}
 use lib.Seq.{drop-cons, drop-length}
-use borrow.Author.Tests.{eqb-true, eqb-false, ltb-false}
-use Rattle.zones.specs.Choice.{pick}
+use borrow.Author.Tests.{eqb-true, eqb-false, ltb-false, not-true, not-false}
 use Rattle.framing.specs.declared.Form.{Form}
 use Rattle.framing.specs.Files.{All, lineEnd, widthOf}
+use Rattle.grammar.specs.Answer as G
+use Rattle.grammar.specs.Answer.{Answer, accepted}
 use Rattle.grammar.specs.Statements.{Statement}
 use Rattle.grammar.specs.Files.{Reads, Writable, statementsOf, checkOf}
 use Rattle.grammar.specs.Parts.{sizeOf, recordsBefore, nothing}
 use Rattle.records.specs.July.{recordSize, july}
 use Rattle.records.proofs.Theorems.{reads}
 use Rattle.records.specs.Looks.{lookOf}
+use Rattle.statements.specs.declared.Checked.the-variants as C
+use Rattle.statements.specs.Answers.{checkedOf}
 use Rattle.readers.specs.Places.{endAfter}
 use Rattle.readers.proofs.Rows.{before-next}
 use Rattle.contents.specs.Heads.{recordAtOf}
@@ -28,14 +31,14 @@ use Rattle.journal_layout.specs.declared.Free.{Free}
 use Rattle.journal_layout.specs.declared.Judgement.{Judgement}
 use Rattle.journal_layout.specs.Layout.{linesOf, layoutOf, Journal}
 use Rattle.journal_layout.specs.Test.{soundIn, heldOf, freeIn}
-use Rattle.journal_layout.proofs.Holding.{Holding}
 use Rattle.journal_layout.proofs.Adding.{lines-append}
 use Rattle.journal_layout.proofs.Exact.{one-lines, journal-length, journal-held, sound-journal}
 use Rattle.journal_layout.proofs.Freeing.{free-is}
-use Rattle.journal.specs.declared.Delivery.the-variants.{Done, Refused}
-use Rattle.journal.specs.Delivery.{Verdict, hold, store, refuse, verdictBy, verdictOf, Outcome, delivered, refused, proceed, run, linesIn, outcomeOf, contentBy, contentOf}
+use Rattle.journal.specs.declared.Plan.{Plan}
+use Rattle.journal.specs.declared.Delivery.the-variants.{Done}
+use Rattle.journal.specs.Delivery.{hold, store, refuse, verdictBy, verdictOf, delivered, refused, proceed, run, linesIn, outcomeBy, outcomeOf, contentBy, contentOf}
 use Rattle.journal.specs.Answers.{answerOf}
-use Rattle.journal.specs.Plans.{partsFrom, Inside, judgedAll, verdictNumber, Reading, writtenAll, Roomy, Accepts, refusedPlan, Storable, Planned}
+use Rattle.journal.specs.Plans.{partsFrom, Inside, judgedAll, verdictNumber, Reading, writtenAll, Roomy, Accepts, refusedPlan, Planned}
 use Rattle.journal.proofs.Values.{verdict-value, is-hold, is-store, is-refuse, has-room}
 use Rattle.journal.proofs.Written.{layout-all}
 use Rattle.journal.proofs.Turning.{file-small, Turn, turn, last-turn}
@@ -111,6 +114,23 @@ reading-writable f [] [] r = tt
 reading-writable f [] (s ∷ P) r = absurd r
 reading-writable f (h ∷ hs) [] r = absurd r
 reading-writable f (h ∷ hs) (s ∷ P) r = (reads-writable (r .0), reading-writable f hs P (r .1))
+
+-- a refusal plans nothing
+pub refused-planned : {j : List ℕ} {f : Form} {b : List ℕ} {v k : ℕ} → outcomeOf j f b ≡ refused v k → Planned j f b (refusedPlan v k)
+unfolding contentOf partsFrom writtenAll
+refused-planned {j} {f} {b} o =
+    record {
+      storable =
+          record {
+            list = [];
+            named = (omega arith, omega arith);
+            inside = record { rises = λ q h. absurd (omega arith); within = λ q h. absurd (omega arith) };
+            reads = tt;
+            room = tt;
+          };
+      answer = sym (ap answerOf o);
+      content = sym (ap (contentBy j) o);
+    }
 
 -- ---- the run
 
@@ -259,22 +279,9 @@ module _ (j : List ℕ) (f : Form) (b : List ℕ) where
 
         -- refused: nothing is stored
         pub refused-there : 1 < v → Planned j f b (refusedPlan v (at / widthOf recordSize f + 1))
-        unfolding contentOf partsFrom writtenAll
         refused-there h =
             let y : verdictOf n (H ++ P) s ≡ refuse v = rw p (is-refuse n (H ++ P) s (rw p at h)) in
-            let o : outcomeOf j f b ≡ refused v (recordsBefore i S + 1) = outcome ∙ sym (rw y at step) in
-            record {
-              storable =
-                  record {
-                    list = [];
-                    named = (omega arith, omega arith);
-                    inside = record { rises = λ q h. absurd (omega arith); within = λ q h. absurd (omega arith) };
-                    reads = tt;
-                    room = tt;
-                  };
-              answer = sym (ap answerOf o ∙ ap (λ (m : ℕ). Refused v (m + 1)) (sym (g .behind)));
-              content = sym (ap (contentBy j) o);
-            }
+            refused-planned (outcome ∙ sym (rw y at step) ∙ ap (λ (m : ℕ). refused v (m + 1)) (sym (g .behind)))
 
         -- held: one more is held
         pub held-there : v ≡ 0 → Dry places ends count taken (held + 1) end
@@ -330,3 +337,28 @@ module _ (j : List ℕ) (f : Form) (b : List ℕ) where
               helds = let v = d .helds in let r = g .rises in omega arith;
               rest = rw (before-next i S x, add-one i, ← append-assoc H P (s ∷ [])) (rw y at step);
             }
+
+-- ---- the whole plan, at its returns
+
+module _ (j : List ℕ) (f : Form) (b : List ℕ) {t : Bool} (p : t ≡ soundIn j) where
+  pub not-sound : {r : Plan} → not t ≡ true → r ≡ refusedPlan 21 0 → Planned j f b r
+  unfolding outcomeOf
+  not-sound h e = rw e (refused-planned (rw (← p, not-true t h)))
+
+  pub not-read : {n k : ℕ} {r : Plan} → not t ≡ false → C.Refused n k ≡ checkedOf (checkOf july f b) → r ≡ refusedPlan n k → Planned j f b r
+  unfolding outcomeOf
+  not-read {n} {k} h c e = rw e (refused-planned (rw (← p, not-false t h) (by (checkOf july f b) c)))
+    where
+      by : (a : Answer) → C.Refused n k ≡ checkedOf a → outcomeBy a (run (linesIn j) (heldOf j) 0 0 0 (statementsOf july f b)) ≡ refused n k
+      by (accepted x) q = absurd (let z : _≡_ {A = ℕ} 0 1 = cc in omega arith)
+      by (G.refused x y) q = let z : x ≡ n = cc in let w : y ≡ k = cc in rw (z, w)
+
+  pub is-sound : not t ≡ false → soundIn j ≡ true
+  is-sound h = sym p ∙ not-false t h
+
+pub accepts : (f : Form) (b : List ℕ) {s m c : ℕ} → C.Accepted s m c ≡ checkedOf (checkOf july f b) → Accepts f b
+accepts f b {s} {m} {c} e = by (checkOf july f b) refl e
+  where
+    by : (a : Answer) → checkOf july f b ≡ a → C.Accepted s m c ≡ checkedOf a → Accepts f b
+    by (accepted x) q g = record { counts = x; yes = q }
+    by (G.refused x y) q g = absurd (let z : _≡_ {A = ℕ} 0 1 = cc in omega arith)

@@ -3,3 +3,5 @@ pub mod Values
 pub mod Written
 pub mod Turning
 pub mod Dry
+pub mod Storing
+pub mod One

@@ -2,11 +2,10 @@
 use mathlib.Core.Path.{_≡_, refl, sym, ap, ap₂, _∙_}
 use mathlib.Core.Bool.{Bool, true, false, _||_}
 use mathlib.Core.List.{List, [], _∷_, _++_}
-use Prim.Native.Nat.{ℕ, _+_, _-_, _<_, _≤_}
+use Prim.Native.Nat.{ℕ, _-_, _<_, _≤_}
 use native.Mathlib.Omega.{arith}
 use lib.Dec.{leb, ltb}
-use lib.ListN.{length, length-append}
-use lib.IntN.{ℤ}
+use lib.ListN.{length}
 use borrow.Author.Tests.{ltb-true, leb-true}
 use Rattle.zones.specs.Choice.{pick}
 use Rattle.framing.specs.declared.Form.{Form}
@@ -15,18 +14,17 @@ use Rattle.grammar.specs.Record.{sameKey}
 use Rattle.grammar.specs.Statements.{Statement}
 use Rattle.grammar.specs.Files.{Reads}
 use Rattle.grammar.specs.Parts.{sizeOf}
-use Rattle.grammar.proofs.Tests.{clash, or-assoc}
+use Rattle.grammar.proofs.Tests.{or-assoc}
 use Rattle.records.specs.July.{july}
 use Rattle.records.specs.Looks.{lookOf}
 use Rattle.contents.specs.Heads.{recordAtOf}
-use Rattle.bodies.specs.Bodies.{sameRecords, identical}
+use Rattle.bodies.specs.Bodies.{identical}
 use Rattle.bodies.proofs.Identical.{same-identical}
 use Rattle.entries.specs.Entries.{mostEntries}
 use Rattle.journal_layout.specs.declared.Judgement.{Judgement}
 use Rattle.journal_layout.specs.declared.Judgement.the-variants.{Held, First, After}
 use Rattle.journal_layout.specs.Chains.{heldAmong, lastAmong, judgementOf, followsBy}
 use Rattle.journal_layout.specs.Layout.{linesOf}
-use Rattle.journal_layout.specs.Test.{laterOf, judgedBy}
 use Rattle.journal_layout.proofs.Holding.{Holding, later-value, judged-value}
 use Rattle.journal_layout.proofs.Adding.{look-date, look-balance}
 use Rattle.journal.specs.Delivery.{Verdict, hold, store, refuse, isHeld, verdictBy, verdictOf}

@@ -1,11 +1,11 @@
 -- A statement written behind those of a layout gives the layout with one more.
-use mathlib.Core.Path.{_≡_, refl, sym, ap, ap₂, _∙_}
+use mathlib.Core.Path.{_≡_, sym, ap, ap₂, _∙_}
 use mathlib.Core.List.{List, [], _∷_, _++_, append-assoc, append-nil}
 use Prim.Native.Nat.{ℕ, zero, suc, _+_, _-_, _*_, _<_, _≤_}
-use native.Mathlib.Nat.{zero-add, add-zero, add-assoc}
+use native.Mathlib.Nat.{zero-add}
 use native.Mathlib.Omega.{arith}
 use lib.ListN.{length, take, drop, replicate, length-append, length-replicate}
-use lib.Seq.{take-at, drop-at, drop-drop, drop-append-le, take-append-add, drop-append-add}
+use lib.Seq.{take-at, drop-at, drop-drop, drop-append-le}
 use Rattle.zones.specs.Pieces.{flat}
 use Rattle.framing.specs.Files.{All}
 use Rattle.grammar.specs.Statements.{Statement}
@@ -15,7 +15,7 @@ use Rattle.records.specs.July.{recordSize, july}
 use Rattle.bodies.specs.Bodies.{bodyOf}
 use Rattle.entries.specs.Entries.{mostEntries, entrySize, tableSize, lineAt}
 use Rattle.journal_layout.specs.Layout.{linesOf, entryOf, entriesOf, bodiesOf, layoutOf}
-use Rattle.journal_layout.proofs.Holding.{length-entry-of, length-body-of}
+use Rattle.journal_layout.proofs.Holding.{length-entry-of}
 use Rattle.journal_layout.proofs.Adding.{lines-append, entries-append, bodies-append, length-entries, length-bodies, all-append}
 use Rattle.journal_layout.proofs.Exact.{one-lines}
 use Rattle.journal.specs.Plans.{entryWritten, bodyWritten, written, writtenAll, Roomy}

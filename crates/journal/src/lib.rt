@@ -3,12 +3,21 @@ ghost use mathlib.Core.Path.{_≡_};
 ghost use mathlib.Core.Bool.{true};
 ghost use Prim.Native.Nat.{_+_, _*_, _<_, _≤_};
 ghost use lib.ListN.{length};
+ghost use mathlib.Core.List.{List, _∷_, []};
+ghost use Rattle.framing.specs.Files.{lineEnd};
+ghost use Rattle.grammar.specs.Statements.{Statement};
+ghost use Rattle.grammar.specs.Files.{Reads};
+ghost use Rattle.grammar.specs.Parts.{sizeOf};
+ghost use Rattle.records.specs.July.{july};
 ghost use Rattle.records.specs.Looks.{lookOf};
+ghost use Rattle.entries.specs.Entries.{mostEntries, lineAt};
 ghost use Rattle.journal.specs.Delivery.{isHeld, verdictBy};
 ghost use Rattle.journal_layout.specs.Test.{soundIn};
-ghost use Rattle.journal.specs.Plans.{partsFrom, Inside, judgedIn, judgedAll, verdictNumber, Accepts, refusedPlan, Planned};
+ghost use Rattle.journal.specs.Plans.{partsFrom, Inside, judgedIn, judgedAll, verdictNumber, Reading, written, writtenAll, Accepts, refusedPlan, Storable, Planned};
+ghost use Rattle.journal.specs.Answers.{Delivers};
 use framing::Form;
 use journal_layout::Judgement;
+use statements::Checked;
 
 // How many statements were stored, and how many were held; or a refusal's number and record.
 pub enum Delivery {
@@ -27,7 +36,15 @@ pub struct Plan {
 }
 
 // What the planned statements, so many, say of another one, behind what the held ones say.
-fn judged_planned(last: Judgement, form: Form, file: &[u8], places: &[u32], ends: &[u32], count: usize, s: &[u8]) -> Judgement
+fn judged_planned(
+    last: Judgement,
+    form: Form,
+    file: &[u8],
+    places: &[u32],
+    ends: &[u32],
+    count: usize,
+    s: &[u8],
+) -> Judgement
     requires { ⌜ (count ≤ length (now places)) × (count ≤ length (now ends)) × Inside count (now places) (now ends) (now file) ⌝ }
     ensures { λ r. ⌜ r ≡ judgedIn last form (partsFrom count 0 (now (places .entry)) (now (ends .entry)) (now (file .entry))) (now (s .entry)) ⌝ }
 {
@@ -60,7 +77,16 @@ fn is_held(judgement: Judgement) -> bool
 }
 
 // What the held statements, so many, and the planned ones say of another one.
-fn judged_all(journal: &[u8], held: usize, form: Form, file: &[u8], places: &[u32], ends: &[u32], count: usize, s: &[u8]) -> Judgement
+fn judged_all(
+    journal: &[u8],
+    held: usize,
+    form: Form,
+    file: &[u8],
+    places: &[u32],
+    ends: &[u32],
+    count: usize,
+    s: &[u8],
+) -> Judgement
     requires { ⌜ (count ≤ length (now places)) × (count ≤ length (now ends)) × Inside count (now places) (now ends) (now file) ⌝ }
     ensures { λ r. ⌜ r ≡ judgedAll (now (journal .entry)) held form (partsFrom count 0 (now (places .entry)) (now (ends .entry)) (now (file .entry))) (now (s .entry)) ⌝ }
 {
@@ -124,7 +150,13 @@ fn dry_run(journal: &[u8], form: Form, file: &[u8]) -> Plan
         let s = &file[at..end];
         let size = (end - at) / width;
         let judgement = judged_all(journal, free.entry, form, file, &places, &ends, count, s);
-        let v = verdict(judgement, contents::record_at(s, 0), free.entry + count, lines - taken, size);
+        let v = verdict(
+            judgement,
+            contents::record_at(s, 0),
+            free.entry + count,
+            lines - taken,
+            size,
+        );
         if 1 < v {
             return refused_plan(v, (at / width + 1) as u64);
         }
@@ -149,4 +181,83 @@ fn dry_run(journal: &[u8], form: Form, file: &[u8]) -> Plan
             held,
         },
     }
+}
+
+// One statement into an entry and the lines from a line on. Its number of records.
+fn store(journal: &mut [u8], e: usize, line: usize, form: Form, part: &[u8]) -> usize
+    requires { ⌜ (e < mostEntries) × (lineAt line ≤ length (now journal)) × (lineEnd form ≤ 2) ⌝ }
+    ensures { λ n. ⌜ ((s : Statement) → Reads july form (now (part .entry)) (s ∷ []) → lineAt (line + sizeOf s) ≤ length (now (journal .entry)) → (n ≡ sizeOf s) × (now (journal .exit) ≡ written e line s (now (journal .entry)))) ⌝ }
+{
+    let width = 120 + form.line_end as usize;
+    let size = part.len() / width;
+    let opening = contents::record_at(part, 0);
+    let closing = bodies::closing_of(form, part);
+    let a = 60 * e;
+    let z = a + 60;
+    entries::put_entry(&mut journal[a..z], line, size, opening, closing);
+    let b = 7680 + 120 * line;
+    bodies::put_body(&mut journal[b..], form, part);
+    size
+}
+
+// The planned parts of a file, so many, into the entries and lines from these on.
+fn store_all(
+    journal: &mut [u8],
+    form: Form,
+    file: &[u8],
+    places: &[u32],
+    ends: &[u32],
+    count: usize,
+    entry: usize,
+    line: usize,
+)
+    requires { ⌜ Storable (now journal) form (now file) (now places) (now ends) count entry line ⌝ }
+    ensures { λ _. ⌜ ((ss : List Statement) → Reading form (partsFrom count 0 (now (places .entry)) (now (ends .entry)) (now (file .entry))) ss → now (journal .exit) ≡ writtenAll entry line ss (now (journal .entry))) ⌝ }
+{
+    let mut k = line;
+    let mut p: usize = 0;
+    while p < count {
+        let a = places[p] as usize;
+        let z = ends[p] as usize;
+        let n = store(journal, entry + p, k, form, &file[a..z]);
+        k += n;
+        p += 1;
+    }
+}
+
+// Every refusal, or the plan of what to store.
+fn planned(journal: &[u8], form: Form, file: &[u8]) -> Plan
+    ensures { λ r. ⌜ Planned (now (journal .entry)) form (now (file .entry)) r ⌝ }
+{
+    if !journal_layout::sound(journal) {
+        return refused_plan(21, 0);
+    }
+    match statements::check(form, file) {
+        Checked::Accepted {
+            statements: _,
+            movements: _,
+            complements: _,
+        } => dry_run(journal, form, file),
+        Checked::Refused { number, record } => refused_plan(number, record),
+    }
+}
+
+// A file delivered: its statements are stored, each once, or the whole file is refused and the journal unchanged.
+pub fn deliver(journal: &mut [u8], form: Form, file: &[u8]) -> Delivery
+    ensures { λ r. ⌜ Delivers (now (journal .entry)) form (now (file .entry)) r (now (journal .exit)) ⌝ }
+{
+    let plan = planned(journal, form, file);
+    let places = plan.places;
+    let ends = plan.ends;
+    store_all(
+        journal,
+        form,
+        file,
+        &places,
+        &ends,
+        plan.count,
+        plan.entry,
+        plan.line,
+    );
+    plan.answer
 }

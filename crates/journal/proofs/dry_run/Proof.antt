@@ -4,9 +4,7 @@ use native.Mathlib.Omega.{arith}
 use borrow.Author.Needs.{needs}
 use lib.ListN.{length}
 use Prim.Native.Nat.{_-_}
-use mathlib.Core.Path.{_≡_, sym, _∙_, refl}
 use Rattle.framing.specs.Files.{widthOf}
-use Rattle.journal.proofs.Turning.{Turn}
 use Rattle.journal.proofs.Dry.{Dry, known-end, file-short, free-there, journal-lines, begins, ends-there, turn-there, verdict-there, refused-there, held-there, stored-there}
 use Rattle.journal.proofs.dry_run.Statement.{statement}
 use Rattle.journal.proofs.dry_run.Tie as tie
