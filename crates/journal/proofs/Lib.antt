@@ -4,4 +4,5 @@ pub mod Written
 pub mod Turning
 pub mod Dry
 pub mod Storing
+pub mod Runs
 pub mod One

@@ -43,7 +43,7 @@ last-append k last [] B = refl
 last-append k last (a ∷ A) B = last-append k (pick (sameKey (a .key) k) (After (a .new-date) (a .new-balance)) last) A B
 
 -- the last of an account is no held one
-not-held : (k : Key) (last : Judgement) (A : List Statement) → isHeld last ≡ false → isHeld (lastAmong k last A) ≡ false
+pub not-held : (k : Key) (last : Judgement) (A : List Statement) → isHeld last ≡ false → isHeld (lastAmong k last A) ≡ false
 unfolding lastAmong
 not-held k last [] h = h
 not-held k last (a ∷ A) h = not-held k (pick (sameKey (a .key) k) (After (a .new-date) (a .new-balance)) last) A (by (sameKey (a .key) k))

@@ -1,3 +1,4 @@
 pub mod Delivery
 pub mod Answers
 pub mod Plans
+pub mod Arrivals

@@ -1,0 +1,154 @@
+-- What a run of statements leaves: the list held before, and behind it those that are new, in order of first arrival.
+use mathlib.Core.Path.{_≡_, refl, sym, ap, _∙_}
+use mathlib.Core.Bool.{Bool, true, false, _||_}
+use mathlib.Core.List.{List, [], _∷_, _++_, append-assoc, append-nil}
+use Prim.Native.Nat.{ℕ, _+_, _-_, _*_, _<_, _≤_}
+use native.Mathlib.Nat.{add-zero}
+use native.Mathlib.Omega.{arith}
+use lib.Dec.{leb, ltb}
+use lib.ListN.{length, length-append}
+use Rattle.zones.specs.Choice.{pick}
+use Rattle.framing.specs.Files.{All}
+use Rattle.grammar.specs.Statements.{Statement}
+use Rattle.grammar.specs.Files.{Writable}
+use Rattle.grammar.specs.Parts.{sizeOf}
+use Rattle.grammar.proofs.Tests.{clash}
+use Rattle.records.specs.July.{recordSize, july}
+use Rattle.entries.specs.Entries.{mostEntries, tableSize}
+use Rattle.journal_layout.specs.declared.Judgement.{Judgement}
+use Rattle.journal_layout.specs.declared.Judgement.the-variants.{Held, First, After}
+use Rattle.journal_layout.specs.Chains.{heldAmong, lastAmong, judgementOf, followsBy, follows}
+use Rattle.journal_layout.specs.Layout.{mostLines, linesOf, layoutOf, Keepable, Journal}
+use Rattle.journal_layout.proofs.Chain.{Row, row-snoc, row-distinct, row-chained, row-of}
+use Rattle.journal_layout.proofs.Adding.{lines-append, all-append}
+use Rattle.journal_layout.proofs.Exact.{one-lines}
+use Rattle.journal.specs.Delivery.{Verdict, hold, store, refuse, isHeld, verdictBy, verdictOf, Outcome, delivered, refused, proceed, run}
+use Rattle.journal.specs.Arrivals.{arrivals}
+use Rattle.journal.proofs.Values.{not-held, has-room}
+
+-- ---- a verdict and what it means
+
+-- what is held is held, and only that
+pub held-verdict : (n : ℕ) (hs : List Statement) (s : Statement) → heldAmong s hs ≡ true → verdictOf n hs s ≡ hold
+unfolding verdictOf judgementOf
+held-verdict n hs s h = rw h
+
+pub hold-held : (n : ℕ) (hs : List Statement) (s : Statement) → verdictOf n hs s ≡ hold → heldAmong s hs ≡ true
+unfolding verdictOf judgementOf
+hold-held n hs s h = by (heldAmong s hs) refl h
+  where
+    by : (t : Bool) → heldAmong s hs ≡ t
+        → verdictBy (pick t Held (lastAmong (s .key) First hs)) (s .old-date) (s .old-balance) (length hs) (n - linesOf hs) (sizeOf s) ≡ hold → t ≡ true
+    by true e g = refl
+    by false e g =
+        absurd (other (followsBy (lastAmong (s .key) First hs) (s .old-date) (s .old-balance)) (ltb (length hs) mostEntries) (leb (sizeOf s) (n - linesOf hs))
+        (rw (not-held (s .key) First hs refl) at g))
+      where
+        other : (b c d : Bool) → pick b (pick c (pick d store (refuse 24)) (refuse 23)) (refuse 22) ≡ hold → ⊥
+        other false c d e = let z : _≡_ {A = ℕ} 0 1 = cc in omega arith
+        other true false d e = let z : _≡_ {A = ℕ} 0 1 = cc in omega arith
+        other true true false e = let z : _≡_ {A = ℕ} 0 1 = cc in omega arith
+        other true true true e = let z : _≡_ {A = ℕ} 0 1 = cc in omega arith
+
+-- what is stored is new, and follows
+pub store-follows : (n : ℕ) (hs : List Statement) (s : Statement) → verdictOf n hs s ≡ store → follows s hs ≡ true
+unfolding verdictOf
+store-follows n hs s e = by (judgementOf s hs) e
+  where
+    by : (j : Judgement) → verdictBy j (s .old-date) (s .old-balance) (length hs) (n - linesOf hs) (sizeOf s) ≡ store → followsBy j (s .old-date) (s .old-balance) ≡ true
+    by Held g = absurd (let z : _≡_ {A = ℕ} 0 1 = cc in omega arith)
+    by First g = refl
+    by (After d b) g = other (followsBy (After d b) (s .old-date) (s .old-balance)) g
+      where
+        other : (t : Bool) → pick t (pick (ltb (length hs) mostEntries) (pick (leb (sizeOf s) (n - linesOf hs)) store (refuse 24)) (refuse 23)) (refuse 22) ≡ store → t ≡ true
+        other true g = refl
+        other false g = absurd (let z : _≡_ {A = ℕ} 0 1 = cc in omega arith)
+
+pub store-new : (n : ℕ) (hs : List Statement) (s : Statement) → verdictOf n hs s ≡ store → heldAmong s hs ≡ false
+store-new n hs s e = by (heldAmong s hs) refl
+  where
+    by : (t : Bool) → heldAmong s hs ≡ t → t ≡ false
+    by true h = absurd (let q = sym e ∙ held-verdict n hs s h in let z : _≡_ {A = ℕ} 0 1 = cc in omega arith)
+    by false h = refl
+
+-- ---- what a journal can hold, as the test sees it
+
+pub record Kept (n : ℕ) (ss : List Statement) : Type 0 where
+  pub few : length ss ≤ mostEntries
+  pub room : linesOf ss ≤ n
+  pub alone : All (Writable july) ss
+  pub row : Row [] ss
+
+pub kept : {n : ℕ} {ss : List Statement} → Keepable n ss → Kept n ss
+kept {n} {ss} k = record { few = k .few; room = k .room; alone = k .alone; row = row-of [] ss (k .distinct) (k .chained) }
+
+-- with one more that is stored
+kept-store : {n : ℕ} {hs : List Statement} {s : Statement} → Kept n hs → Writable july s → verdictOf n hs s ≡ store → Kept n (hs ++ (s ∷ []))
+kept-store {n} {hs} {s} k w e =
+    let r = has-room n hs s e in
+    let a = r .0 in
+    let b = r .1 in
+    let c = k .room in
+    let l = length-append hs (s ∷ []) in
+    let m : linesOf (hs ++ (s ∷ [])) ≡ linesOf hs + sizeOf s = lines-append hs (s ∷ []) ∙ one-lines s (linesOf hs) in
+    record {
+      few = omega arith;
+      room = omega arith;
+      alone = all-append (Writable july) hs (s ∷ []) (k .alone) (w, tt);
+      row = row-snoc [] hs s (k .row) (store-follows n hs s e);
+    }
+
+-- ---- the run
+
+-- what it leaves
+pub record Ran (n : ℕ) (hs : List Statement) (stored held : ℕ) (ss L : List Statement) (x y : ℕ) : Type 0 where
+  pub list : L ≡ hs ++ arrivals hs ss
+  pub stores : x ≡ stored + length (arrivals hs ss)
+  pub all : x + y ≡ stored + held + length ss
+  pub kept : Kept n L
+
+pub ran : (n : ℕ) (hs : List Statement) (behind stored held : ℕ) (ss : List Statement) {L : List Statement} {x y : ℕ} → Kept n hs → All (Writable july) ss
+    → run n hs behind stored held ss ≡ delivered L x y → Ran n hs stored held ss L x y
+unfolding run arrivals
+ran n hs behind stored held [] {L} {x} {y} k w e =
+    let l : hs ≡ L = cc in
+    let p : stored ≡ x = cc in
+    let q : held ≡ y = cc in
+    record { list = sym l ∙ sym (append-nil hs); stores = omega arith; all = omega arith; kept = rw (← l) k }
+ran n hs behind stored held (s ∷ ss) {L} {x} {y} k w e =
+    by (verdictOf n hs s) refl e (λ g. ran n hs (behind + sizeOf s) stored (held + 1) ss k (w .1) g)
+    (λ v g. ran n (hs ++ (s ∷ [])) (behind + sizeOf s) (stored + 1) held ss (kept-store k (w .0) v) (w .1) g)
+  where
+    by : (v : Verdict) → verdictOf n hs s ≡ v
+        → proceed v (run n hs (behind + sizeOf s) stored (held + 1) ss) (run n (hs ++ (s ∷ [])) (behind + sizeOf s) (stored + 1) held ss) (λ m. refused m (behind + 1))
+        ≡ delivered L x y
+        → (run n hs (behind + sizeOf s) stored (held + 1) ss ≡ delivered L x y → Ran n hs stored (held + 1) ss L x y)
+        → (verdictOf n hs s ≡ store → run n (hs ++ (s ∷ [])) (behind + sizeOf s) (stored + 1) held ss ≡ delivered L x y → Ran n (hs ++ (s ∷ [])) (stored + 1) held ss L x y)
+        → Ran n hs stored held (s ∷ ss) L x y
+    by hold v g i j =
+        let r = i g in
+        let h = hold-held n hs s v in
+        record { list = rw h (r .list); stores = rw h (r .stores); all = let a = r .all in omega arith; kept = r .kept }
+    by store v g i j =
+        let r = j v g in
+        let h = store-new n hs s v in
+        let a = r .all in
+        let b = r .stores in
+        record {
+          list = rw h (r .list ∙ append-assoc hs (s ∷ []) (arrivals (hs ++ (s ∷ [])) ss));
+          stores = rw h (omega arith);
+          all = omega arith;
+          kept = r .kept;
+        }
+    by (refuse m) v g i j = absurd (let z : _≡_ {A = ℕ} 0 1 = cc in omega arith)
+
+-- the layout of what can be held is a journal of it
+pub kept-journal : {n : ℕ} {ss : List Statement} → n ≤ mostLines → Kept n ss → Journal (layoutOf n ss) ss
+unfolding Rattle.journal_layout.specs.Chains.ofAccount
+kept-journal {n} {ss} m k =
+    record {
+      lines = n;
+      most = m;
+      layout = refl;
+      kept = record { few = k .few; room = k .room; alone = k .alone; distinct = row-distinct [] ss (k .row) tt; chained = λ x. row-chained x [] ss (k .row) tt };
+    }
