@@ -5,4 +5,6 @@ pub mod Turning
 pub mod Dry
 pub mod Storing
 pub mod Runs
+pub mod Delivered
+pub mod Series
 pub mod One

@@ -32,7 +32,7 @@ use Rattle.journal.specs.Plans.{heldIn, lastIn, judgedIn, judgedAll, ver
 
 -- ---- two rows of statements
 
-held-append : (s : Statement) (A B : List Statement) → heldAmong s (A ++ B) ≡ (heldAmong s A || heldAmong s B)
+pub held-append : (s : Statement) (A B : List Statement) → heldAmong s (A ++ B) ≡ (heldAmong s A || heldAmong s B)
 unfolding heldAmong
 held-append s [] B = refl
 held-append s (a ∷ A) B = ap (λ t. identical a s || t) (held-append s A B) ∙ sym (or-assoc (identical a s) (heldAmong s A) (heldAmong s B))

@@ -220,10 +220,14 @@ fn run(buffer: &mut [u8], series: &[u8]) {
 }
 
 // The series of an open file, which is closed.
-fn run_file(fd: i32, buffer: &mut [u8; 65536], series: &mut [u8; 131072]) {
+fn run_file(fd: i32, buffer: &mut [u8], series: &mut [u8]) {
     let got = io::read_full(fd, series);
     libc::close(fd);
     run(buffer, &series[..got]);
+}
+
+fn run_in(fd: i32, buffer: &mut [u8; 65536], series: &mut [u8; 131072]) {
+    run_file(fd, buffer, series);
 }
 
 // The case that an argument names: a series file.
@@ -243,7 +247,7 @@ fn kept(k: usize) -> bool {
     end_line();
     let mut buffer = [0u8; 65536];
     let mut series = [0u8; 131072];
-    run_file(fd, &mut buffer, &mut series);
+    run_in(fd, &mut buffer, &mut series);
     true
 }
 

@@ -1,41 +1,41 @@
+use Prim.Native.Nat.{_≤_, _<_, _-_}
+use lib.ListN.{length}
+use borrow.Author.Needs.{needs}
 use Rattle.journal_cases.proofs.hash.Statement.{statement}
 use Rattle.journal_cases.proofs.hash.Tie as tie
-use Rattle.journal_cases.proofs.hash.Reads as reads
-use Rattle.journal_cases.proofs.hash.Lts as lts
-use Rattle.journal_cases.proofs.wide.Reads as wide-reads
 
 abbrev Inv-loop : tie.InvT-loop
-Inv-loop journal h₀ i₀ h i = ?
+Inv-loop journal h₀ i₀ h i = (i ≤ length journal) × (h < 4294967291)
 
 abbrev μ-loop : tie.MeasureT-loop
-μ-loop journal h₀ i₀ h i = ?
+μ-loop journal h₀ i₀ h i = length journal - i
 
 loop-holds : tie.Need-loop-holds Inv-loop μ-loop
-loop-holds c = ?
+loop-holds c = search needs
 
 mul-h : tie.Need-mul-h Inv-loop μ-loop
-mul-h c = ?
+mul-h c = search needs
 
 shared-slice-read-wide : tie.Need-shared-slice-read-wide Inv-loop μ-loop
-shared-slice-read-wide c = ?
+shared-slice-read-wide c = search needs
 
 wide-requires : tie.Need-wide-requires Inv-loop μ-loop
-wide-requires c κs = ?
+wide-requires c κs = search needs
 
 add-h : tie.Need-add-h Inv-loop μ-loop
-add-h c = ?
+add-h c = search needs
 
 add-i : tie.Need-add-i Inv-loop μ-loop
-add-i c = ?
+add-i c = search needs
 
 loop-less : tie.Need-loop-less Inv-loop μ-loop
-loop-less c = ?
+loop-less c = search needs
 
 loop-again : tie.Need-loop-again Inv-loop μ-loop
-loop-again c = ?
+loop-again c = search needs
 
 returns : tie.Need-returns Inv-loop μ-loop
-returns c = ?
+returns c = search needs
 
 pub hash-spec : {M : Type 1} → statement M
 hash-spec =

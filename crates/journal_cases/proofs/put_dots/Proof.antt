@@ -1,34 +1,36 @@
+use mathlib.Core.Path.{_≡_}
+use Prim.Native.Nat.{_≤_, _-_}
+use lib.ListN.{length}
+use borrow.Author.Needs.{needs}
 use Rattle.journal_cases.proofs.put_dots.Statement.{statement}
 use Rattle.journal_cases.proofs.put_dots.Tie as tie
-use Rattle.journal_cases.proofs.put_dots.Reads as reads
-use Rattle.journal_cases.proofs.put_dots.Lts as lts
 
 abbrev Inv-loop : tie.InvT-loop
-Inv-loop journal₀ i₀ journal i = ?
+Inv-loop journal₀ i₀ journal i = (i ≤ length journal) × (length journal ≡ length journal₀)
 
 abbrev μ-loop : tie.MeasureT-loop
-μ-loop journal₀ i₀ journal i = ?
+μ-loop journal₀ i₀ journal i = length journal₀ - i
 
 loop-holds : tie.Need-loop-holds Inv-loop μ-loop
-loop-holds c = ?
+loop-holds c = search needs
 
 slice-write-journal : tie.Need-slice-write-journal Inv-loop μ-loop
-slice-write-journal c = ?
+slice-write-journal c = search needs
 
 add-i : tie.Need-add-i Inv-loop μ-loop
-add-i c = ?
+add-i c = search needs
 
 loop-less : tie.Need-loop-less Inv-loop μ-loop
-loop-less c = ?
+loop-less c = search needs
 
 loop-again : tie.Need-loop-again Inv-loop μ-loop
-loop-again c = ?
+loop-again c = search needs
 
 same-length : tie.Need-same-length Inv-loop μ-loop
-same-length c = ?
+same-length c = search needs
 
 returns : tie.Need-returns Inv-loop μ-loop
-returns c = ?
+returns c = search needs
 
 pub put-dots-spec : {M : Type 1} → statement M
 put-dots-spec =

@@ -1,0 +1,98 @@
+-- What a delivery leaves: a sound journal, whose list is the old one followed by the stored statements.
+use mathlib.Core.Path.{_≡_, refl, sym, ap, _∙_}
+use mathlib.Core.Bool.{Bool, true, false}
+use mathlib.Core.List.{List, [], _∷_, _++_, append-nil, append-assoc}
+use Prim.Native.Nat.{ℕ, zero, suc, _+_, _-_, _*_, _/_, _<_, _≤_}
+use native.Mathlib.Nat.{zero-add}
+use native.Mathlib.Omega.{arith}
+use lib.ListN.{length, getD, replicate, length-append, length-replicate, replicate-append-replicate}
+use Rattle.zones.specs.Choice.{pick}
+use Rattle.zones.specs.Pieces.{flat}
+use Rattle.framing.specs.declared.Form.{Form}
+use Rattle.framing.specs.Files.{All}
+use Rattle.grammar.specs.Answer as G
+use Rattle.grammar.specs.Answer.{Answer, accepted}
+use Rattle.grammar.specs.Statements.{Statement, Valid, allRecords}
+use Rattle.grammar.specs.Files.{Reads, Writable, statementsOf, checkOf}
+use Rattle.grammar.specs.Parts.{sizeOf, nothing}
+use Rattle.records.specs.July.{recordSize, july, july2004}
+use Rattle.records.proofs.Theorems.{reads, part-reads}
+use Rattle.bodies.proofs.Single.{reads-writable}
+use Rattle.entries.specs.Entries.{mostEntries, entrySize, tableSize, lineAt}
+use Rattle.journal_layout.specs.Layout.{mostLines, isLength, linesOf, entriesOf, bodiesOf, layoutOf, Keepable, Journal, openedOf}
+use Rattle.journal_layout.specs.Test.{soundIn, heldOf}
+use Rattle.journal_layout.proofs.Testing.{Long, is-long}
+use Rattle.journal_layout.proofs.Exact.{journal-length, journal-sound, journal-list, sound-journal}
+use Rattle.journal.specs.Delivery.{Outcome, delivered, refused, run, linesIn, outcomeBy, outcomeOf, contentBy, contentOf}
+use Rattle.journal.specs.Arrivals.{arrivals}
+use Rattle.journal.proofs.Runs.{Kept, kept, Ran, ran, kept-journal}
+
+-- each statement of an accepted file can be written
+pub file-writable : {f : Form} {b : List ℕ} {ss : List Statement} → Reads july f b ss → All (Writable july) ss
+file-writable {f} {b} {ss} r = each ss (λ i h. reads-writable (part-reads r i h))
+  where
+    each : (ts : List Statement) → ((i : ℕ) → i < length ts → Writable july (getD ts i nothing)) → All (Writable july) ts
+    each [] p = tt
+    each (t ∷ ts) p = (p 0 (omega arith), each ts (λ i h. p (suc i) (omega arith)))
+
+-- a journal's lines
+pub lines-are : {j : List ℕ} {ss : List Statement} (g : Journal j ss) → linesIn j ≡ g .lines
+lines-are g = let l = journal-length g in omega arith
+
+-- what a delivery to a journal of H comes to
+module _ {j : List ℕ} {H : List Statement} (g : Journal j H) (f : Form) (b : List ℕ) where
+  -- its list, as the journal has it
+  pub outcome-by : outcomeOf j f b ≡ outcomeBy (checkOf july f b) (run (linesIn j) H 0 0 0 (statementsOf july f b))
+  unfolding outcomeOf
+  outcome-by = rw (journal-sound g, journal-list g)
+
+  -- a delivery without a refusal
+  pub record Stored (L : List Statement) (x y : ℕ) : Type 0 where
+    pub read : Reads july f b (statementsOf july f b)
+    pub list : L ≡ H ++ arrivals H (statementsOf july f b)
+    pub stores : x ≡ length (arrivals H (statementsOf july f b))
+    pub all : x + y ≡ length (statementsOf july f b)
+    pub journal : Journal (contentOf j f b) L
+
+  pub stored : {L : List Statement} {x y : ℕ} → outcomeOf j f b ≡ delivered L x y → Stored L x y
+  unfolding contentOf
+  stored {L} {x} {y} e = by (checkOf july f b) refl (sym outcome-by ∙ e)
+    where
+      by : (a : Answer) → checkOf july f b ≡ a → outcomeBy a (run (linesIn j) H 0 0 0 (statementsOf july f b)) ≡ delivered L x y → Stored L x y
+      by (accepted c) q o =
+          let r = reads f b q in
+          let k : Kept (linesIn j) H = rw (lines-are g) (kept (g .kept)) in
+          let m = ran (linesIn j) H 0 0 0 (statementsOf july f b) k (file-writable r) o in
+          let l : linesIn j ≤ mostLines = rw (lines-are g) (g .most) in
+          let s = m .stores in
+          let a = m .all in
+          record {
+            read = r;
+            list = m .list;
+            stores = omega arith;
+            all = omega arith;
+            journal = rw e (kept-journal l (m .kept));
+          }
+      by (G.refused n k) q o = absurd (let z : _≡_ {A = ℕ} 0 1 = cc in omega arith)
+
+  -- a refused one
+  pub unchanged : {n k : ℕ} → outcomeOf j f b ≡ refused n k → contentOf j f b ≡ j
+  unfolding contentOf
+  unchanged e = ap (contentBy j) e
+
+-- opening leaves a journal of no statement
+pub opened : (j : List ℕ) → isLength (length j) ≡ true → Journal (openedOf j) []
+unfolding openedOf layoutOf entriesOf bodiesOf linesOf flat Rattle.journal_layout.specs.Chains.ofAccount
+opened j h =
+    let l = is-long (length j) h in
+    let a = l .least in
+    let b = l .most in
+    let e = l .even in
+    let n = linesIn j in
+    let z : length j ≡ tableSize + recordSize * (n - 0) = omega arith in
+    record {
+      lines = n;
+      most = omega arith;
+      layout = rw h (ap (λ (m : ℕ). replicate m 32) z ∙ sym (replicate-append-replicate tableSize (recordSize * (n - 0)) 32));
+      kept = record { few = omega arith; room = omega arith; alone = tt; distinct = tt; chained = λ k. tt };
+    }

@@ -1,0 +1,195 @@
+-- Demand 3 holds of opening and delivery.
+use mathlib.Core.Path.{_≡_, refl, sym, ap, ap₂, _∙_}
+use mathlib.Core.Bool.{Bool, true, false, _||_}
+use mathlib.Core.List.{List, [], _∷_, _++_, append-nil, append-assoc}
+use Prim.Native.Nat.{ℕ, zero, suc, _+_, _-_, _*_, _<_, _≤_}
+use native.Mathlib.Nat.{zero-add}
+use native.Mathlib.Omega.{arith}
+use lib.ListN.{length, length-append}
+use lib.IntN.{ℤ, _+ℤ_}
+use Rattle.zones.specs.Choice.{pick}
+use Rattle.zones.proofs.Copies.{equal-same}
+use Rattle.framing.specs.declared.Form.{Form}
+use Rattle.framing.specs.Files.{All}
+use Rattle.grammar.specs.declared.Key.{Key}
+use Rattle.grammar.specs.Record.{sameKey}
+use Rattle.grammar.specs.Statements.{Movement, Statement, plus}
+use Rattle.grammar.specs.Files.{Reads, Writable, statementsOf, checkOf}
+use Rattle.grammar.specs.Parts.{sizeOf}
+use Rattle.records.specs.July.{july}
+use Rattle.records.proofs.Theorems.{counts, reads, unique}
+use Rattle.bodies.specs.Bodies.{bodyOf, identical}
+use Rattle.journal_layout.specs.Chains.{heldAmong, Links, Chained, ofAccount, Distinct}
+use Rattle.journal_layout.specs.Layout.{isLength, layoutOf, Journal, openedOf}
+use Rattle.journal.specs.declared.Delivery.{Delivery}
+use Rattle.journal.specs.declared.Delivery.the-variants.{Done, Refused}
+use Rattle.journal.specs.Delivery.{Outcome, delivered, refused, run, linesIn, outcomeBy, outcomeOf, contentBy, contentOf}
+use Rattle.journal.specs.Answers.{answerOf}
+use Rattle.journal.specs.Arrivals.{arrivals, movementsIn, lastBalance, Summed}
+use Rattle.journal.specs.Series.{Event, deliver, After, Deliver, acceptedBy, after, accepted, heldAfter, Demand3}
+use Rattle.journal.proofs.Values.{held-append}
+use Rattle.journal.proofs.Runs.{held-verdict}
+use Rattle.journal.proofs.Delivered.{lines-are, outcome-by, Stored, stored, unchanged, opened}
+
+-- ---- arrivals
+
+-- in two rows
+arrivals-append : (H A B : List Statement) → arrivals H (A ++ B) ≡ arrivals H A ++ arrivals (H ++ arrivals H A) B
+unfolding arrivals
+arrivals-append H [] B = rw (append-nil H)
+arrivals-append H (s ∷ A) B = by (heldAmong s H) (arrivals-append H A B) (arrivals-append (H ++ (s ∷ [])) A B)
+  where
+    by : (t : Bool) → arrivals H (A ++ B) ≡ arrivals H A ++ arrivals (H ++ arrivals H A) B
+        → arrivals (H ++ (s ∷ [])) (A ++ B) ≡ arrivals (H ++ (s ∷ [])) A ++ arrivals ((H ++ (s ∷ [])) ++ arrivals (H ++ (s ∷ [])) A) B
+        → pick t (arrivals H (A ++ B)) (s ∷ arrivals (H ++ (s ∷ [])) (A ++ B))
+        ≡ pick t (arrivals H A) (s ∷ arrivals (H ++ (s ∷ [])) A) ++ arrivals (H ++ pick t (arrivals H A) (s ∷ arrivals (H ++ (s ∷ [])) A)) B
+    by true i j = i
+    by false i j = ap (λ l. s ∷ l) (j ∙ rw (append-assoc H (s ∷ []) (arrivals (H ++ (s ∷ [])) A)))
+
+-- ---- this delivery
+
+abbrev ours : Deliver
+ours j f b = record { answer = answerOf (outcomeOf j f b); journal = contentOf j f b }
+
+-- one delivery: what it adds
+one-more : {j : List ℕ} {H : List Statement} → Journal j H → (f : Form) (b : List ℕ)
+    → Journal (contentOf j f b) (H ++ arrivals H (acceptedBy (answerOf (outcomeOf j f b)) (statementsOf july f b)))
+unfolding arrivals
+one-more {j} {H} g f b = by (outcomeOf j f b) refl
+  where
+    by : (o : Outcome) → outcomeOf j f b ≡ o → Journal (contentOf j f b) (H ++ arrivals H (acceptedBy (answerOf o) (statementsOf july f b)))
+    by (delivered L x y) e = let s = stored g f b e in rw (← s .list) (s .journal)
+    by (refused n k) e = rw (append-nil H, unchanged g f b e) g
+
+-- a series: what it adds
+series : {j : List ℕ} {H : List Statement} → Journal j H → (es : List Event) → Journal (after ours j es) (H ++ arrivals H (accepted ours j es))
+unfolding after accepted arrivals
+series {j} {H} g [] = rw (append-nil H) g
+series {j} {H} g (deliver f b ∷ es) =
+    let A = acceptedBy (answerOf (outcomeOf j f b)) (statementsOf july f b) in
+    let B = accepted ours (contentOf j f b) es in
+    rw (arrivals-append H A B, ← append-assoc H (arrivals H A) (arrivals (H ++ arrivals H A) B)) (series (one-more g f b) es)
+
+-- ---- the sum of an account's movements
+
+plus-append : (z : ℤ) (a b : List Movement) → plus z (a ++ b) ≡ plus (plus z a) b
+unfolding plus
+plus-append z [] b = refl
+plus-append z (m ∷ a) b = plus-append (z +ℤ m .posting .amount) a b
+
+-- a chain of statements, each with its own sum
+pub chain-summed : (L : List Statement) → Chained L → All (Writable july) L → Summed L
+unfolding movementsIn
+chain-summed [] c w = tt
+chain-summed (s ∷ []) c w = rw (append-nil (s .movements)) (w .0 .valid .sum)
+chain-summed (s ∷ t ∷ ts) c w =
+    plus-append (s .old-balance) (s .movements) (movementsIn (t ∷ ts))
+    ∙ ap (λ z. plus z (movementsIn (t ∷ ts))) (w .0 .valid .sum ∙ c .0 .balance)
+    ∙ chain-summed (t ∷ ts) (c .1) (w .1)
+
+all-account : (k : Key) (L : List Statement) → All (Writable july) L → All (Writable july) (ofAccount k L)
+unfolding ofAccount
+all-account k [] w = tt
+all-account k (s ∷ L) w = by (sameKey (s .key) k) (all-account k L (w .1))
+  where
+    by : (t : Bool) → All (Writable july) (ofAccount k L) → All (Writable july) (pick t (s ∷ ofAccount k L) (ofAccount k L))
+    by true r = (w .0, r)
+    by false r = r
+
+pub journal-summed : {j : List ℕ} {ss : List Statement} → Journal j ss → (k : Key) → Summed (ofAccount k ss)
+journal-summed {j} {ss} g k = chain-summed (ofAccount k ss) (g .kept .chained k) (all-account k ss (g .kept .alone))
+
+-- ---- sent again
+
+-- held by these
+abbrev HeldBy : List Statement → List Statement → Type 0
+HeldBy L ss = All (λ s. heldAmong s L ≡ true) ss
+
+held-more : (L M ss : List Statement) → HeldBy L ss → HeldBy (L ++ M) ss
+held-more L M [] h = tt
+held-more L M (s ∷ ss) h = (rw (held-append s L M, h .0), held-more L M ss (h .1))
+
+-- a statement is held where it stands
+held-self : (s : Statement) (H M : List Statement) → heldAmong s (H ++ (s ∷ M)) ≡ true
+unfolding heldAmong identical
+held-self s [] M = rw (equal-same (bodyOf s))
+held-self s (h ∷ H) M = by (identical h s) (held-self s H M)
+  where
+    by : (t : Bool) → heldAmong s (H ++ (s ∷ M)) ≡ true → (t || heldAmong s (H ++ (s ∷ M))) ≡ true
+    by true e = refl
+    by false e = e
+
+-- what arrived is held
+arrived-held : (H ss : List Statement) → HeldBy (H ++ arrivals H ss) ss
+unfolding arrivals
+arrived-held H [] = tt
+arrived-held H (s ∷ ss) = by (heldAmong s H) refl (arrived-held H ss) (arrived-held (H ++ (s ∷ [])) ss)
+  where
+    by : (t : Bool) → heldAmong s H ≡ t → HeldBy (H ++ arrivals H ss) ss → HeldBy ((H ++ (s ∷ [])) ++ arrivals (H ++ (s ∷ [])) ss) ss
+        → HeldBy (H ++ pick t (arrivals H ss) (s ∷ arrivals (H ++ (s ∷ [])) ss)) (s ∷ ss)
+    by true e i j = (rw (held-append s H (arrivals H ss), e), i)
+    by false e i j = (held-self s H (arrivals (H ++ (s ∷ [])) ss), rw (append-assoc H (s ∷ []) (arrivals (H ++ (s ∷ [])) ss)) at j)
+
+-- a run of what is held stores nothing
+run-held : (n : ℕ) (hs : List Statement) (behind stored held : ℕ) (ss : List Statement) → HeldBy hs ss
+    → run n hs behind stored held ss ≡ delivered hs stored (held + length ss)
+unfolding run
+run-held n hs behind stored held [] h = let z : held + 0 ≡ held = omega arith in rw z
+run-held n hs behind stored held (s ∷ ss) h =
+    let z : held + 1 + length ss ≡ held + suc (length ss) = omega arith in
+    rw (held-verdict n hs s (h .0)) (run-held n hs (behind + sizeOf s) stored (held + 1) ss (h .1) ∙ ap (delivered hs stored) z)
+
+-- so a file whose statements are all held changes nothing
+pub wholly-held : {j : List ℕ} {L ss : List Statement} → Journal j L → (g : Form) (c : List ℕ) → Reads july g c ss → HeldBy L ss
+    → ours j g c ≡ record { answer = Done 0 (length ss); journal = j }
+unfolding contentOf
+wholly-held {j} {L} {ss} d g c r h =
+    let a = counts r in
+    let q : statementsOf july g c ≡ ss = unique (reads g c a) r in
+    let o : outcomeOf j g c ≡ delivered L 0 (length ss) =
+    outcome-by d g c ∙ rw (a, q) (run-held (linesIn j) L 0 0 0 ss h ∙ ap (delivered L 0) (zero-add (length ss))) in
+    let l : layoutOf (linesIn j) L ≡ j = rw (lines-are d) (sym (d .layout)) in
+    rw (o, l)
+
+-- ---- a series in two
+
+after-append : (D : Deliver) (j : List ℕ) (es fs : List Event) → after D j (es ++ fs) ≡ after D (after D j es) fs
+unfolding after
+after-append D j [] fs = refl
+after-append D j (deliver f b ∷ es) fs = after-append D (D j f b .journal) es fs
+
+-- an answer without a refusal
+answered : (o : Outcome) {s h : ℕ} → answerOf o ≡ Done s h → (L : List Statement) × (o ≡ delivered L s h)
+answered (delivered L x y) {s} {h} e = let p : x ≡ s = cc in let q : y ≡ h = cc in (L, rw (p, q))
+answered (refused n k) e = absurd (let z : _≡_ {A = ℕ} 0 1 = cc in omega arith)
+
+-- ---- DEMAND 3
+
+module _ (j : List ℕ) (right : isLength (length j) ≡ true) where
+  from-opening : (es : List Event) → Journal (after ours (openedOf j) es) (heldAfter ours (openedOf j) es)
+  from-opening es = series (opened j right) es
+
+  sent-again : (es : List Event) (f : Form) (b : List ℕ) (s h : ℕ) → ours (after ours (openedOf j) es) f b .answer ≡ Done s h
+      → (later : List Event) (g : Form) (c : List ℕ) → Reads july g c (statementsOf july f b)
+      → ours (after ours (openedOf j) (es ++ (deliver f b ∷ later))) g c
+      ≡ record { answer = Done 0 (length (statementsOf july f b)); journal = after ours (openedOf j) (es ++ (deliver f b ∷ later)) }
+  unfolding after
+  sent-again es f b s h e later g c r =
+      let J = after ours (openedOf j) es in
+      let H = heldAfter ours (openedOf j) es in
+      let y = answered (outcomeOf J f b) e in
+      let x = stored (from-opening es) f b (y .1) in
+      let d = series (x .journal) later in
+      let q : HeldBy (y .0) (statementsOf july f b) = rw (x .list) (arrived-held H (statementsOf july f b)) in
+      rw (after-append ours (openedOf j) es (deliver f b ∷ later)) (wholly-held d g c r (held-more (y .0) _ (statementsOf july f b) q))
+
+pub demand3 : Demand3 openedOf ours
+demand3 =
+    record {
+      holds = from-opening;
+      distinct = λ j h es. from-opening j h es .kept .distinct;
+      chained = λ j h es k. from-opening j h es .kept .chained k;
+      summed = λ j h es k. journal-summed (from-opening j h es) k;
+      counts = λ j h es f b s y e. let x = stored (from-opening j h es) f b (answered (outcomeOf (after ours (openedOf j) es) f b) e .1) in (x .stores, x .all);
+      again = sent-again;
+    }

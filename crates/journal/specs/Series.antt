@@ -1,0 +1,68 @@
+-- DEMAND 3, over any two functions that open a journal and deliver to it: after any series of deliveries, with any bytes.
+use mathlib.Core.Path.{_≡_}
+use mathlib.Core.Bool.{true}
+use mathlib.Core.List.{List, [], _∷_, _++_}
+use Prim.Native.Nat.{ℕ, _+_}
+use lib.ListN.{length}
+use Rattle.framing.specs.declared.Form.{Form}
+use Rattle.grammar.specs.declared.Key.{Key}
+use Rattle.grammar.specs.Statements.{Statement}
+use Rattle.grammar.specs.Files.{Reads, statementsOf}
+use Rattle.records.specs.July.{july}
+use Rattle.journal_layout.specs.Chains.{Links, Chained, ofAccount, Distinct}
+use Rattle.journal_layout.specs.Layout.{isLength, Journal}
+use Rattle.journal.specs.declared.Delivery.{Delivery}
+use Rattle.journal.specs.declared.Delivery.the-variants.{Done, Refused}
+use Rattle.journal.specs.Arrivals.{arrivals, Summed}
+
+pub data Event : Type 0 where
+  deliver : (form : Form) (file : List ℕ) → Event
+
+-- the answer to a file and the journal after it
+pub record After : Type 0 where
+  pub answer : Delivery
+  pub journal : List ℕ
+
+-- a delivery answers for any journal, form and file
+abbrev pub Deliver : Type 0
+Deliver = List ℕ → Form → List ℕ → After
+
+-- the statements of a file delivered without a refusal
+abbrev pub acceptedBy : Delivery → List Statement → List Statement
+acceptedBy (Done s h) ss = ss
+acceptedBy (Refused n r) ss = []
+
+module _ (D : Deliver) where
+  -- the journal after a series
+  unfoldable pub after : List ℕ → List Event → List ℕ
+  after j [] = j
+  after j (deliver f b ∷ es) = after (D j f b .journal) es
+
+  -- the statements of the accepted files of a series, one file after another; accepted means here: delivered without a refusal
+  unfoldable pub accepted : List ℕ → List Event → List Statement
+  accepted j [] = []
+  accepted j (deliver f b ∷ es) = acceptedBy (D j f b .answer) (statementsOf july f b) ++ accepted (D j f b .journal) es
+
+  -- the statements held: those in order of first arrival
+  abbrev pub heldAfter : List ℕ → List Event → List Statement
+  heldAfter j es = arrivals [] (accepted j es)
+
+pub record Demand3 (O : List ℕ → List ℕ) (D : Deliver) : Type 0 where
+  -- it holds the statements of the accepted files, in order of first arrival
+  pub holds : (j : List ℕ) → isLength (length j) ≡ true → (es : List Event) → Journal (after D (O j) es) (heldAfter D (O j) es)
+  -- no two identical
+  pub distinct : (j : List ℕ) → isLength (length j) ≡ true → (es : List Event) → Distinct (heldAfter D (O j) es)
+  -- each account's link, new balance to next old balance
+  pub chained : (j : List ℕ) → isLength (length j) ≡ true → (es : List Event) (k : Key) → Chained (ofAccount k (heldAfter D (O j) es))
+  -- its first old balance plus every movement held is its last new balance
+  pub summed : (j : List ℕ) → isLength (length j) ≡ true → (es : List Event) (k : Key) → Summed (ofAccount k (heldAfter D (O j) es))
+  -- the answer is how many of the file's statements were stored and how many were held
+  pub counts : (j : List ℕ) → isLength (length j) ≡ true → (es : List Event) (f : Form) (b : List ℕ) (s h : ℕ)
+      → D (after D (O j) es) f b .answer ≡ Done s h
+      → (s ≡ length (arrivals (heldAfter D (O j) es) (statementsOf july f b))) × (s + h ≡ length (statementsOf july f b))
+  -- such a file, sent again at any later time with any line ends, is answered as wholly held and changes nothing
+  pub again : (j : List ℕ) → isLength (length j) ≡ true → (es : List Event) (f : Form) (b : List ℕ) (s h : ℕ)
+      → D (after D (O j) es) f b .answer ≡ Done s h
+      → (later : List Event) (g : Form) (c : List ℕ) → Reads july g c (statementsOf july f b)
+      → D (after D (O j) (es ++ (deliver f b ∷ later))) g c
+      ≡ record { answer = Done 0 (length (statementsOf july f b)); journal = after D (O j) (es ++ (deliver f b ∷ later)) }
