@@ -7,4 +7,5 @@ pub mod Storing
 pub mod Runs
 pub mod Delivered
 pub mod Series
+pub mod Accounts
 pub mod One

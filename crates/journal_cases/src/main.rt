@@ -42,7 +42,7 @@ fn wide(b: u8) -> u64
     b as u64
 }
 
-// A number over all the journal's bytes, so that a line shows more than the answer.
+// A number over all the journal's bytes, so that a line also tells what a journal holds.
 fn hash(journal: &[u8]) -> u64 {
     let mut h: u64 = 0;
     let mut i: usize = 0;
@@ -61,6 +61,7 @@ fn put_dots(journal: &mut [u8]) {
     }
 }
 
+// A new journal: dots, as long as the operation says.
 fn renew(journal: &mut [u8]) {
     put_dots(journal);
     word(b"J");
@@ -155,7 +156,7 @@ fn payload_size(letter: u8, b: u64) -> usize {
     if letter == b'D' { b as usize } else { 0 }
 }
 
-// What is no operation: of no letter, and up to the end of the series.
+// What is no operation has no letter, and takes all up to the end of the series.
 fn malformed(end: usize) -> Operation
     ensures { λ r. ⌜ (r .first ≡ end) × (r .end ≡ end) ⌝ }
 {
@@ -168,6 +169,7 @@ fn malformed(end: usize) -> Operation
     }
 }
 
+// The operation at a place: a header of 31 bytes, and a payload.
 fn operation_at(series: &[u8], at: usize) -> Operation
     requires { ⌜ at < length (now series) ⌝ }
     ensures { λ r. ⌜ (at < r .end) × (r .first ≤ r .end) × (r .end ≤ length (now (series .entry))) ⌝ }
@@ -226,6 +228,7 @@ fn run_file(fd: i32, buffer: &mut [u8], series: &mut [u8]) {
     run(buffer, &series[..got]);
 }
 
+// The arrays are lent whole, and become slices here.
 fn run_in(fd: i32, buffer: &mut [u8; 65536], series: &mut [u8; 131072]) {
     run_file(fd, buffer, series);
 }

@@ -6,7 +6,7 @@ use Rattle.journal_cases.proofs.put_dots.Statement.{statement}
 use Rattle.journal_cases.proofs.put_dots.Tie as tie
 
 abbrev Inv-loop : tie.InvT-loop
-Inv-loop journal₀ i₀ journal i = (i ≤ length journal) × (length journal ≡ length journal₀)
+Inv-loop journal₀ i₀ journal i = (i ≤ length journal₀) × (length journal ≡ length journal₀)
 
 abbrev μ-loop : tie.MeasureT-loop
 μ-loop journal₀ i₀ journal i = length journal₀ - i
