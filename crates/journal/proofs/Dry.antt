@@ -10,6 +10,7 @@ use lib.Dec.{eqb}
 use lib.ListN.{length, take, drop, getD, set, replicate, length-append, length-set}
 use lib.Seq.{drop-cons, drop-length}
 use borrow.Author.Tests.{eqb-true, eqb-false, ltb-false, not-true, not-false}
+use Rattle.zones.specs.Choice.{pick}
 use Rattle.framing.specs.declared.Form.{Form}
 use Rattle.framing.specs.Files.{All, lineEnd, widthOf}
 use Rattle.grammar.specs.Answer as G
@@ -29,6 +30,7 @@ use Rattle.bodies.proofs.Single.{reads-writable}
 use Rattle.entries.specs.Entries.{mostEntries, tableSize, lineAt}
 use Rattle.journal_layout.specs.declared.Free.{Free}
 use Rattle.journal_layout.specs.declared.Judgement.{Judgement}
+use Rattle.journal_layout.specs.Chains.{heldAmong}
 use Rattle.journal_layout.specs.Layout.{linesOf, layoutOf, Journal}
 use Rattle.journal_layout.specs.Test.{soundIn, heldOf, freeIn}
 use Rattle.journal_layout.proofs.Adding.{lines-append}
@@ -38,7 +40,9 @@ use Rattle.journal.specs.declared.Plan.{Plan}
 use Rattle.journal.specs.declared.Delivery.the-variants.{Done}
 use Rattle.journal.specs.Delivery.{hold, store, refuse, verdictBy, verdictOf, delivered, refused, proceed, run, linesIn, outcomeBy, outcomeOf, contentBy, contentOf}
 use Rattle.journal.specs.Answers.{answerOf}
-use Rattle.journal.specs.Plans.{partsFrom, Inside, judgedAll, verdictNumber, Reading, writtenAll, Roomy, Accepts, refusedPlan, Planned}
+use Rattle.journal.specs.Arrivals.{Span, span, arrivals, spansOf}
+use Rattle.journal.specs.Plans.{partsFrom, spansFrom, Inside, judgedAll, verdictNumber, Reading, writtenAll, Roomy, Accepts, refusedPlan, Planned}
+use Rattle.journal.proofs.Runs.{hold-held, store-new}
 use Rattle.journal.proofs.Values.{verdict-value, is-hold, is-store, is-refuse, has-room}
 use Rattle.journal.proofs.Written.{layout-all}
 use Rattle.journal.proofs.Turning.{file-small, Turn, turn, last-turn}
@@ -71,6 +75,28 @@ parts-snoc zero p places ends b = rw (add-zero p)
 parts-snoc (suc n) p places ends b =
     let z : p + 1 + n ≡ p + suc n = omega arith in
     ap (λ l. take (getD ends p 0 - getD places p 0) (drop (getD places p 0) b) ∷ l) (rw z at (parts-snoc n (p + 1) places ends b))
+
+-- and so do their places
+spans-kept : (n p k : ℕ) (places ends : List ℕ) (x y : ℕ) → p + n ≤ k → spansFrom n p (set places k x) (set ends k y) ≡ spansFrom n p places ends
+unfolding spansFrom
+spans-kept zero p k places ends x y h = refl
+spans-kept (suc n) p k places ends x y h =
+    ap₂ _∷_ (rw (getD-other places p k x (omega arith), getD-other ends p k y (omega arith))) (spans-kept n (p + 1) k places ends x y (omega arith))
+
+spans-snoc : (n p : ℕ) (places ends : List ℕ) → spansFrom (suc n) p places ends
+    ≡ spansFrom n p places ends ++ (span (getD places (p + n) 0) (getD ends (p + n) 0 - getD places (p + n) 0) ∷ [])
+unfolding spansFrom
+spans-snoc zero p places ends = rw (add-zero p)
+spans-snoc (suc n) p places ends =
+    let z : p + 1 + n ≡ p + suc n = omega arith in
+    ap (λ l. span (getD places p 0) (getD ends p 0 - getD places p 0) ∷ l) (rw z at (spans-snoc n (p + 1) places ends))
+
+spans-set : (n : ℕ) (places ends : List ℕ) (x y : ℕ) → n < length places → n < length ends
+    → spansFrom (n + 1) 0 (set places n x) (set ends n y) ≡ spansFrom n 0 places ends ++ (span x (y - x) ∷ [])
+spans-set n places ends x y p q =
+    let a = getD-there places n x p in
+    let c = getD-there ends n y q in
+    rw (add-one n, spans-snoc n 0 (set places n x) (set ends n y), spans-kept n 0 n places ends x y (omega arith), zero-add n, a, c)
 
 reading-snoc : (f : Form) (hs : List (List ℕ)) (P : List Statement) (h : List ℕ) (s : Statement) → Reading f hs P → Reads july f h (s ∷ [])
     → Reading f (hs ++ (h ∷ [])) (P ++ (s ∷ []))
@@ -130,6 +156,7 @@ refused-planned {j} {f} {b} o =
           };
       answer = sym (ap answerOf o);
       content = sym (ap (contentBy j) o);
+      arrived = λ s h e. absurd (let z : _≡_ {A = ℕ} 0 1 = cc in omega arith);
     }
 
 -- ---- the run
@@ -143,6 +170,9 @@ module _ (j : List ℕ) (f : Form) (b : List ℕ) where
 
   abbrev n : ℕ
   n = linesIn j
+
+  abbrev w : ℕ
+  w = widthOf recordSize f
 
   -- i statements are behind, those of P are planned
   pub record Dry (places ends : List ℕ) (count taken held at : ℕ) : Type 0 where
@@ -160,6 +190,8 @@ module _ (j : List ℕ) (f : Form) (b : List ℕ) where
     pub roomy : Roomy (length H) (linesOf H) (length j) P
     pub helds : held ≤ at
     pub rest : run n (H ++ P) (recordsBefore i S) count held (drop i S) ≡ run n H 0 0 0 S
+    pub new : P ++ arrivals (H ++ P) (drop i S) ≡ arrivals H S
+    pub spans : spansFrom count 0 places ends ++ spansOf w (H ++ P) (recordsBefore i S) (drop i S) ≡ spansOf w H 0 S
 
   module _ (sound : soundIn j ≡ true) (yes : Accepts f b) where
     pub journal : Journal j H
@@ -187,7 +219,7 @@ module _ (j : List ℕ) (f : Form) (b : List ℕ) where
     journal-lines = let l = journal-length journal in omega arith
 
     pub begins : Dry (replicate mostEntries 0) (replicate mostEntries 0) 0 (linesOf H) 0 0
-    unfolding recordsBefore partsFrom
+    unfolding recordsBefore partsFrom spansFrom
     begins =
         let l = journal-lines in
         let k = journal .kept in
@@ -207,6 +239,8 @@ module _ (j : List ℕ) (f : Form) (b : List ℕ) where
           roomy = tt;
           helds = omega arith;
           rest = rw (append-nil H);
+          new = rw (append-nil H);
+          spans = rw (append-nil H);
         }
 
     journal-layout : j ≡ layoutOf n H
@@ -222,13 +256,15 @@ module _ (j : List ℕ) (f : Form) (b : List ℕ) where
       -- the file is at its end
       pub ends-there : length b ≤ at → Planned j f b
           (record { count = count; places = places; ends = ends; entry = length H; line = linesOf H; answer = Done count held })
-      unfolding contentOf run
+      unfolding contentOf run arrivals spansOf
       ends-there l =
           let e = last-turn file (d .upto) (d .place) l in
           let q : drop (d .i) S ≡ [] = ap (λ (m : ℕ). drop m S) e ∙ drop-length S in
           let o : outcomeOf j f b ≡ delivered (H ++ P) count held = outcome ∙ sym (d .rest) ∙ ap (run n (H ++ P) (recordsBefore (d .i) S) count held) q in
           let m = d .named in
           let k = d .few in
+          let z : arrivals (H ++ P) (drop (d .i) S) ≡ [] = ap (arrivals (H ++ P)) q in
+          let y : spansOf w (H ++ P) (recordsBefore (d .i) S) (drop (d .i) S) ≡ [] = ap (spansOf w (H ++ P) (recordsBefore (d .i) S)) q in
           record {
             storable =
                 record {
@@ -242,6 +278,11 @@ module _ (j : List ℕ) (f : Form) (b : List ℕ) where
             content = ap (writtenAll (length H) (linesOf H) P) journal-layout
                 ∙ layout-all n H P (journal .kept .alone) (reading-writable f (partsFrom count 0 places ends b) P (d .reads)) (length j) journal-lines (d .roomy)
                 ∙ sym (ap (contentBy j) o);
+            arrived = λ s h e. record {
+              new = sym (append-nil P) ∙ sym (ap (λ l. P ++ l) z) ∙ d .new;
+              spans = sym (append-nil (spansFrom count 0 places ends)) ∙ sym (ap (λ l. spansFrom count 0 places ends ++ l) y) ∙ d .spans;
+              entry = refl;
+            };
           }
 
       -- one statement more
@@ -277,6 +318,18 @@ module _ (j : List ℕ) (f : Form) (b : List ℕ) where
         unfolding run
         step = rw (drop-cons S i nothing (g .index)) at (d .rest)
 
+        -- what is still to arrive, and where
+        step-new : P ++ pick (heldAmong s (H ++ P)) (arrivals (H ++ P) (drop (suc i) S)) (s ∷ arrivals ((H ++ P) ++ (s ∷ [])) (drop (suc i) S)) ≡ arrivals H S
+        unfolding arrivals
+        step-new = rw (drop-cons S i nothing (g .index)) at (d .new)
+
+        step-spans : spansFrom count 0 places ends
+            ++ pick (heldAmong s (H ++ P)) (spansOf w (H ++ P) (recordsBefore i S + sizeOf s) (drop (suc i) S))
+            (span (recordsBefore i S * w) (sizeOf s * w) ∷ spansOf w ((H ++ P) ++ (s ∷ [])) (recordsBefore i S + sizeOf s) (drop (suc i) S))
+            ≡ spansOf w H 0 S
+        unfolding spansOf
+        step-spans = rw (drop-cons S i nothing (g .index)) at (d .spans)
+
         -- refused: nothing is stored
         pub refused-there : 1 < v → Planned j f b (refusedPlan v (at / widthOf recordSize f + 1))
         refused-there h =
@@ -303,6 +356,8 @@ module _ (j : List ℕ) (f : Form) (b : List ℕ) where
               roomy = d .roomy;
               helds = let z = d .helds in let r = g .rises in omega arith;
               rest = rw (before-next i S x, add-one i) (rw y at step);
+              new = rw (add-one i) (rw (hold-held n (H ++ P) s y) at step-new);
+              spans = rw (before-next i S x, add-one i) (rw (hold-held n (H ++ P) s y) at step-spans);
             }
 
         -- stored: it is planned behind the others
@@ -310,6 +365,9 @@ module _ (j : List ℕ) (f : Form) (b : List ℕ) where
         stored-there h =
             let y : verdictOf n (H ++ P) s ≡ store = is-store n (H ++ P) s (sym p ∙ h) in
             let o = has-room n (H ++ P) s y in
+            let t : heldAmong s (H ++ P) ≡ false = store-new n (H ++ P) s y in
+            let w′ = widthOf recordSize f in
+            let R = spansOf w′ ((H ++ P) ++ (s ∷ [])) (recordsBefore i S + sizeOf s) (drop (suc i) S) in
             let x = g .index in
             let c = d .planned in
             let m = d .named in
@@ -336,6 +394,9 @@ module _ (j : List ℕ) (f : Form) (b : List ℕ) where
               roomy = roomy-snoc (length H) (linesOf H) (length j) P s (d .roomy) (omega arith) (let v = journal-lines in omega arith);
               helds = let v = d .helds in let r = g .rises in omega arith;
               rest = rw (before-next i S x, add-one i, ← append-assoc H P (s ∷ [])) (rw y at step);
+              new = rw (add-one i, ← append-assoc H P (s ∷ []), append-assoc P (s ∷ []) (arrivals ((H ++ P) ++ (s ∷ [])) (drop (suc i) S))) (rw t at step-new);
+              spans = rw (before-next i S x, add-one i, ← append-assoc H P (s ∷ []), spans-set count places ends at end (omega arith) (omega arith), g .len, append-assoc (spansFrom count 0 places ends) (span at (sizeOf s * w′) ∷ []) R)
+                  (ap (λ (m : ℕ). spansFrom count 0 places ends ++ (span m (sizeOf s * w′) ∷ R)) (d .place) ∙ rw t at step-spans);
             }
 
 -- ---- the whole plan, at its returns

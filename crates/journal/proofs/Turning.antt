@@ -43,6 +43,7 @@ pub record Turn (f : Form) (b : List ℕ) (ss : List Statement) (i at end : ℕ)
   pub rises : at < end
   pub within : end ≤ length b
   pub reads : Reads july f (take (end - at) (drop at b)) (getD ss i nothing ∷ [])
+  pub len : end - at ≡ sizeOf (getD ss i nothing) * widthOf recordSize f
   pub size : (end - at) / widthOf recordSize f ≡ sizeOf (getD ss i nothing)
   pub behind : at / widthOf recordSize f ≡ recordsBefore i ss
 
@@ -75,6 +76,7 @@ module _ {f : Form} {b : List ℕ} {ss : List Statement} (r : Reads july f b ss)
         rises = omega (arith, some f);
         within = rw c (before-inside r (i + 1) (omega arith));
         reads = rw (e, p, between r i h) (part-reads r i h);
+        len = z;
         size = rw z (mul-div-cancel n (some f));
         behind = rw p (mul-div-cancel m (some f));
       }

@@ -1,5 +1,5 @@
 pub mod Delivery
 pub mod Answers
-pub mod Plans
 pub mod Arrivals
+pub mod Plans
 pub mod Series

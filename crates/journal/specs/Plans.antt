@@ -6,9 +6,10 @@ use Prim.Native.Nat.{ℕ, zero, suc, _+_, _-_, _*_, _<_, _≤_}
 use lib.ListN.{length, take, drop, getD, replicate}
 use Rattle.zones.specs.Choice.{pick}
 use Rattle.framing.specs.declared.Form.{Form}
+use Rattle.framing.specs.Files.{widthOf}
 use Rattle.grammar.specs.Answer.{Counts, accepted}
 use Rattle.grammar.specs.Statements.{Statement}
-use Rattle.grammar.specs.Files.{Reads, checkOf}
+use Rattle.grammar.specs.Files.{Reads, statementsOf, checkOf}
 use Rattle.grammar.specs.Parts.{sizeOf}
 use Rattle.records.specs.July.{recordSize, july}
 use Rattle.bodies.specs.Bodies.{bodyOf, sameRecords}
@@ -16,11 +17,12 @@ use Rattle.entries.specs.Entries.{mostEntries, entrySize, lineAt}
 use Rattle.journal_layout.specs.declared.Judgement.{Judgement}
 use Rattle.journal_layout.specs.declared.Judgement.the-variants.{Held}
 use Rattle.journal_layout.specs.Layout.{entryOf}
-use Rattle.journal_layout.specs.Test.{laterOf, judgedBy}
+use Rattle.journal_layout.specs.Test.{heldOf, laterOf, judgedBy}
 use Rattle.journal.specs.Delivery.{Verdict, hold, store, refuse, isHeld, contentOf, outcomeOf}
-use Rattle.journal.specs.declared.Delivery.the-variants.{Refused}
+use Rattle.journal.specs.declared.Delivery.the-variants.{Done, Refused}
 use Rattle.journal.specs.declared.Plan.{Plan}
 use Rattle.journal.specs.Answers.{answerOf}
+use Rattle.journal.specs.Arrivals.{Span, span, arrivals, spansOf}
 
 -- n parts of a file, from the p-th on: each between its two places
 unfoldable pub partsFrom : (n p : ℕ) → (places ends b : List ℕ) → List (List ℕ)
@@ -100,8 +102,20 @@ pub record Storable (j : List ℕ) (f : Form) (b places ends : List ℕ) (count 
   pub reads : Reading f (partsFrom count 0 places ends b) list
   pub room : Roomy entry line (length j) list
 
+-- where the n parts from the p-th on stand
+unfoldable pub spansFrom : (n p : ℕ) → (places ends : List ℕ) → List Span
+spansFrom zero p places ends = []
+spansFrom (suc n) p places ends = span (getD places p 0) (getD ends p 0 - getD places p 0) ∷ spansFrom n (p + 1) places ends
+
+-- of a delivery without a refusal: the parts are those of the statements that are new, in order of first arrival, behind those held
+pub record Arrived (j : List ℕ) (f : Form) (b : List ℕ) (r : Plan) (list : List Statement) : Type 0 where
+  pub new : list ≡ arrivals (heldOf j) (statementsOf july f b)
+  pub spans : spansFrom (r .count) 0 (r .places) (r .ends) ≡ spansOf (widthOf recordSize f) (heldOf j) 0 (statementsOf july f b)
+  pub entry : r .entry ≡ length (heldOf j)
+
 -- A plan: the statements to store, with room for them; and the delivery's answer. Written into the journal they are the delivery's content.
 pub record Planned (j : List ℕ) (f : Form) (b : List ℕ) (r : Plan) : Type 0 where
   pub storable : Storable j f b (r .places) (r .ends) (r .count) (r .entry) (r .line)
   pub answer : r .answer ≡ answerOf (outcomeOf j f b)
   pub content : writtenAll (r .entry) (r .line) (storable .list) j ≡ contentOf j f b
+  pub arrived : (s h : ℕ) → r .answer ≡ Done s h → Arrived j f b r (storable .list)
