@@ -8,4 +8,5 @@ pub mod Runs
 pub mod Delivered
 pub mod Series
 pub mod Accounts
+pub mod Latest
 pub mod One

@@ -4,6 +4,10 @@ use mathlib.Core.List.{List}
 use Prim.Native.Nat.{ℕ}
 use Rattle.framing.specs.declared.Form.{Form}
 use Rattle.journal.specs.Delivery.{Outcome, delivered, refused, outcomeOf, contentOf}
+use Rattle.journal.specs.Newest.{newestOf, newestPart}
+use Rattle.journal.specs.declared.Newest.{Newest}
+use Rattle.journal.specs.declared.Newest.the-variants as N
+use Rattle.journal.specs.declared.Newest.the-variants.{InJournal, InFile}
 use Rattle.journal.specs.declared.Delivery.{Delivery}
 use Rattle.journal.specs.declared.Delivery.the-variants.{Done, Refused}
 
@@ -18,6 +22,20 @@ abbrev pub paperDelivery : Delivery → PaperDelivery
 paperDelivery (Done s h) = record { number = 0; at = 0; stored = s; held = h }
 paperDelivery (Refused n r) = record { number = n; at = r; stored = 0; held = 0 }
 
+-- number, record, and of a statement found: 1 where the journal holds it and 2 where the file does, first byte, length, line-end number; bodies have none
+pub record PaperNewest : Type 0 where
+  pub number : ℕ
+  pub at : ℕ
+  pub source : ℕ
+  pub first : ℕ
+  pub len : ℕ
+  pub line-end : ℕ
+
+abbrev pub paperNewest : Newest → PaperNewest
+paperNewest (InJournal x n) = record { number = 0; at = 0; source = 1; first = x; len = n; line-end = 0 }
+paperNewest (InFile x n e) = record { number = 0; at = 0; source = 2; first = x; len = n; line-end = e }
+paperNewest (N.Refused n r) = record { number = n; at = r; source = 0; first = 0; len = 0; line-end = 0 }
+
 -- an outcome as the code answers it
 abbrev pub answerOf : Outcome → Delivery
 answerOf (delivered ss s h) = Done s h
@@ -27,3 +45,11 @@ answerOf (refused n r) = Refused n r
 pub record Delivers (j : List ℕ) (f : Form) (b : List ℕ) (r : Delivery) (j′ : List ℕ) : Type 0 where
   pub answer : r ≡ answerOf (outcomeOf j f b)
   pub content : j′ ≡ contentOf j f b
+
+-- newest_place
+pub record NewestPlace (j : List ℕ) (f : Form) (b x : List ℕ) (r : Newest) : Type 0 where
+  pub answer : r ≡ newestOf j f b x
+
+-- newest
+pub record NewestPart (j : List ℕ) (f : Form) (b x r : List ℕ) : Type 0 where
+  pub answer : r ≡ newestPart j f b x

@@ -1,5 +1,6 @@
 pub mod Delivery
-pub mod Answers
 pub mod Arrivals
+pub mod Newest
+pub mod Answers
 pub mod Plans
 pub mod Series

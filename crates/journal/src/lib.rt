@@ -1,9 +1,10 @@
-// The journal: a file delivered to it. A dry run judges every statement and plans what to store; only a plan without a refusal is written.
+// The journal: a file delivered to it, and the newest statement of an account. A dry run judges every statement and plans what to store; only a plan without a refusal is written.
 ghost use mathlib.Core.Path.{_≡_};
 ghost use mathlib.Core.Bool.{true};
 ghost use Prim.Native.Nat.{_+_, _*_, _<_, _≤_};
 ghost use lib.ListN.{length};
 ghost use mathlib.Core.List.{List, _∷_, []};
+ghost use Rattle.zones.specs.Choice.{pick};
 ghost use Rattle.framing.specs.Files.{lineEnd};
 ghost use Rattle.grammar.specs.Statements.{Statement};
 ghost use Rattle.grammar.specs.Files.{Reads};
@@ -13,6 +14,7 @@ ghost use Rattle.records.specs.Looks.{lookOf};
 ghost use Rattle.entries.specs.Entries.{mostEntries, lineAt};
 ghost use Rattle.journal.specs.Delivery.{isHeld, verdictBy};
 ghost use Rattle.journal_layout.specs.Test.{soundIn};
+ghost use Rattle.journal.specs.Newest.{keySize, isAccount, lastHeldFrom, lastPart};
 ghost use Rattle.journal.specs.Plans.{partsFrom, Inside, judgedIn, judgedAll, verdictNumber, Reading, written, writtenAll, Accepts, refusedPlan, Storable, Planned};
 ghost use Rattle.journal.specs.Answers.{Delivers};
 use framing::Form;
@@ -22,6 +24,13 @@ use statements::Checked;
 // How many statements were stored, and how many were held; or a refusal's number and record.
 pub enum Delivery {
     Done { stored: u64, held: u64 },
+    Refused { number: u64, record: u64 },
+}
+
+// Where the newest statement of an account stands: in the journal, without line ends, or in the file, with its line-end number.
+pub enum Newest {
+    InJournal { first: usize, len: usize },
+    InFile { first: usize, len: usize, line_end: u64 },
     Refused { number: u64, record: u64 },
 }
 
@@ -260,4 +269,55 @@ pub fn deliver(journal: &mut [u8], form: Form, file: &[u8]) -> Delivery
         plan.line,
     );
     plan.answer
+}
+
+// Whether a record's account is the one that 25 bytes name: bank, branch, currency, decimals, account.
+fn is_account(key: &[u8], opening: &[u8]) -> bool
+    requires { ⌜ length (now key) ≡ keySize ⌝ }
+    ensures { λ t. ⌜ t ≡ isAccount (now (key .entry)) (now (opening .entry)) ⌝ }
+{
+    if opening.len() != 120 {
+        return false;
+    }
+    zones::same(&opening[2..7], &key[0..5])
+        & (zones::same(&opening[11..16], &key[5..10])
+            & (zones::same(&opening[16..19], &key[10..13])
+                & ((opening[19] == key[13]) & zones::same(&opening[21..32], &key[14..25]))))
+}
+
+fn chosen(yes: bool, a: usize, b: usize) -> usize
+    ensures { λ r. ⌜ r ≡ pick yes a b ⌝ }
+{
+    if yes { a } else { b }
+}
+
+// The number of the last entry of an account among so many, from 1; 0 where there is none.
+fn last_held(journal: &[u8], count: usize, key: &[u8]) -> usize
+    requires { ⌜ length (now key) ≡ keySize ⌝ }
+    ensures { λ r. ⌜ r ≡ lastHeldFrom count 0 0 (now (journal .entry)) (now (key .entry)) ⌝ }
+{
+    let mut last: usize = 0;
+    let mut e: usize = 0;
+    while e < count {
+        let h = entries::body_at(journal, e);
+        last = chosen(is_account(key, contents::record_at(h, 0)), e + 1, last);
+        e += 1;
+    }
+    last
+}
+
+// The number of the last planned statement of an account, from 1; 0 where there is none.
+fn last_planned(file: &[u8], places: &[u32], ends: &[u32], count: usize, key: &[u8]) -> usize
+    requires { ⌜ (length (now key) ≡ keySize) × (count ≤ length (now places)) × (count ≤ length (now ends)) × Inside count (now places) (now ends) (now file) ⌝ }
+    ensures { λ r. ⌜ r ≡ lastPart 0 0 (partsFrom count 0 (now (places .entry)) (now (ends .entry)) (now (file .entry))) (now (key .entry)) ⌝ }
+{
+    let mut last: usize = 0;
+    let mut p: usize = 0;
+    while p < count {
+        let a = places[p] as usize;
+        let z = ends[p] as usize;
+        last = chosen(is_account(key, contents::record_at(&file[a..z], 0)), p + 1, last);
+        p += 1;
+    }
+    last
 }
