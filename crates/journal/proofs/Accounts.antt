@@ -1,5 +1,5 @@
 -- A verdict looks at one account: only its own account's held statements and the room that is left decide about a statement.
-use mathlib.Core.Path.{_≡_, refl, sym, ap, ap₂, _∙_}
+use mathlib.Core.Path.{_≡_, refl, sym, ap, _∙_}
 use mathlib.Core.Bool.{Bool, true, false, _||_}
 use mathlib.Core.List.{List, [], _∷_}
 use Prim.Native.Nat.{ℕ, _-_}
@@ -18,7 +18,7 @@ use Rattle.bodies.specs.Bodies.{plain, bodyOf, identical}
 use Rattle.bodies.proofs.Single.{body-reads}
 use Rattle.bodies.proofs.Identical.{identical-bodies}
 use Rattle.journal_layout.specs.declared.Judgement.{Judgement}
-use Rattle.journal_layout.specs.declared.Judgement.the-variants.{Held, First, After}
+use Rattle.journal_layout.specs.declared.Judgement.the-variants.{First, After}
 use Rattle.journal_layout.specs.Chains.{heldAmong, lastAmong, judgementOf, ofAccount}
 use Rattle.journal_layout.specs.Layout.{linesOf}
 use Rattle.journal.specs.Delivery.{verdictBy, verdictOf}

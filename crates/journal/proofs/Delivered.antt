@@ -1,31 +1,28 @@
 -- What a delivery leaves: a sound journal, whose list is the old one followed by the stored statements.
 use mathlib.Core.Path.{_≡_, refl, sym, ap, _∙_}
-use mathlib.Core.Bool.{Bool, true, false}
-use mathlib.Core.List.{List, [], _∷_, _++_, append-nil, append-assoc}
-use Prim.Native.Nat.{ℕ, zero, suc, _+_, _-_, _*_, _/_, _<_, _≤_}
-use native.Mathlib.Nat.{zero-add}
+use mathlib.Core.Bool.{true}
+use mathlib.Core.List.{List, [], _∷_, _++_}
+use Prim.Native.Nat.{ℕ, suc, _+_, _-_, _*_, _<_, _≤_}
 use native.Mathlib.Omega.{arith}
-use lib.ListN.{length, getD, replicate, length-append, length-replicate, replicate-append-replicate}
-use Rattle.zones.specs.Choice.{pick}
+use lib.ListN.{length, getD, replicate, replicate-append-replicate}
 use Rattle.zones.specs.Pieces.{flat}
 use Rattle.framing.specs.declared.Form.{Form}
 use Rattle.framing.specs.Files.{All}
 use Rattle.grammar.specs.Answer as G
 use Rattle.grammar.specs.Answer.{Answer, accepted}
-use Rattle.grammar.specs.Statements.{Statement, Valid, allRecords}
+use Rattle.grammar.specs.Statements.{Statement}
 use Rattle.grammar.specs.Files.{Reads, Writable, statementsOf, checkOf}
-use Rattle.grammar.specs.Parts.{sizeOf, nothing}
-use Rattle.records.specs.July.{recordSize, july, july2004}
+use Rattle.grammar.specs.Parts.{nothing}
+use Rattle.records.specs.July.{recordSize, july}
 use Rattle.records.proofs.Theorems.{reads, part-reads}
 use Rattle.bodies.proofs.Single.{reads-writable}
-use Rattle.entries.specs.Entries.{mostEntries, entrySize, tableSize, lineAt}
-use Rattle.journal_layout.specs.Layout.{mostLines, isLength, linesOf, entriesOf, bodiesOf, layoutOf, Keepable, Journal, openedOf}
-use Rattle.journal_layout.specs.Test.{soundIn, heldOf}
-use Rattle.journal_layout.proofs.Testing.{Long, is-long}
-use Rattle.journal_layout.proofs.Exact.{journal-length, journal-sound, journal-list, sound-journal}
-use Rattle.journal.specs.Delivery.{Outcome, delivered, refused, run, linesIn, outcomeBy, outcomeOf, contentBy, contentOf}
+use Rattle.entries.specs.Entries.{tableSize}
+use Rattle.journal_layout.specs.Layout.{mostLines, isLength, linesOf, entriesOf, bodiesOf, layoutOf, Journal, openedOf}
+use Rattle.journal_layout.proofs.Testing.{is-long}
+use Rattle.journal_layout.proofs.Exact.{journal-length, journal-sound, journal-list}
+use Rattle.journal.specs.Delivery.{delivered, refused, run, linesIn, outcomeBy, outcomeOf, contentBy, contentOf}
 use Rattle.journal.specs.Arrivals.{arrivals}
-use Rattle.journal.proofs.Runs.{Kept, kept, Ran, ran, kept-journal}
+use Rattle.journal.proofs.Runs.{Kept, kept, ran, kept-journal}
 
 -- each statement of an accepted file can be written
 pub file-writable : {f : Form} {b : List ℕ} {ss : List Statement} → Reads july f b ss → All (Writable july) ss

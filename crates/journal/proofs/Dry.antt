@@ -40,7 +40,7 @@ use Rattle.journal.specs.declared.Plan.{Plan}
 use Rattle.journal.specs.declared.Delivery.the-variants.{Done}
 use Rattle.journal.specs.Delivery.{hold, store, refuse, verdictBy, verdictOf, delivered, refused, proceed, run, linesIn, outcomeBy, outcomeOf, contentBy, contentOf}
 use Rattle.journal.specs.Answers.{answerOf}
-use Rattle.journal.specs.Arrivals.{Span, span, arrivals, spansOf}
+use Rattle.journal.specs.Arrivals.{span, arrivals, spansOf}
 use Rattle.journal.specs.Plans.{partsFrom, spansFrom, Inside, judgedAll, verdictNumber, Reading, writtenAll, Roomy, Accepts, refusedPlan, Planned}
 use Rattle.journal.proofs.Runs.{hold-held, store-new}
 use Rattle.journal.proofs.Values.{verdict-value, is-hold, is-store, is-refuse, has-room}

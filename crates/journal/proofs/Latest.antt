@@ -1,33 +1,44 @@
 -- The newest statement of an account: the two loops, what they answer, and one law for each return.
-use mathlib.Core.Path.{_≡_, refl, sym, ap, ap₂, _∙_}
+use mathlib.Core.Path.{_≡_, refl, sym, ap, _∙_}
 use mathlib.Core.Bool.{Bool, true, false, _&&_}
 use mathlib.Core.List.{List, [], _∷_}
 use Prim.Native.Nat.{ℕ, zero, suc, _+_, _-_, _*_, _<_, _≤_}
 use native.Mathlib.Nat.{add-zero, zero-add}
 use native.Mathlib.Omega.{arith}
-use lib.Dec.{eqb, ltb}
+use lib.Dec.{eqb}
 use lib.ListN.{length, take, drop, getD}
-use borrow.Author.Tests.{eq-eqb, ne-eqb}
+use borrow.Author.Tests.{eq-eqb, ne-eqb, lt-ltb, le-ltb}
 use Rattle.zones.specs.Choice.{pick}
 use Rattle.zones.specs.Copy.{sameBytes}
 use Rattle.layouts.specs.Zone.{part}
 use Rattle.framing.specs.declared.Form.{Form}
-use Rattle.framing.specs.Files.{All}
+use Rattle.framing.specs.Files.{All, lineEnd, widthOf}
 use Rattle.grammar.specs.declared.Key.{Key}
 use Rattle.grammar.specs.Record.{sameKey}
 use Rattle.grammar.specs.Statements.{Statement}
-use Rattle.grammar.specs.Files.{Reads, Writable}
+use Rattle.grammar.specs.Files.{Reads, Writable, statementsOf, checkOf}
 use Rattle.grammar.specs.Parts.{nothing}
-use Rattle.records.specs.July.{recordSize, july, keyIn}
+use Rattle.records.specs.July.{recordSize, july}
 use Rattle.contents.specs.Heads.{recordAtOf}
 use Rattle.bodies.specs.Bodies.{bodyOf}
 use Rattle.bodies.proofs.Single.{body-reads}
 use Rattle.bodies.proofs.Ends.{opening-there, opening-whole}
-use Rattle.entries.specs.Entries.{bodyAt}
-use Rattle.journal_layout.proofs.Holding.{Holding, there-body}
-use Rattle.journal.specs.Arrivals.{lastIndex}
-use Rattle.journal.specs.Newest.{keySize, keyFrom, isAccount, lastHeldFrom, lastPart}
-use Rattle.journal.specs.Plans.{partsFrom, Reading}
+use Rattle.entries.specs.declared.Entry.{Entry}
+use Rattle.entries.specs.Entries.{tableSize, entryIn, bodyAt}
+use Rattle.journal_layout.proofs.Holding.{Holding, there-fields, there-body, there-inside}
+use Rattle.journal_layout.proofs.Testing.{cut}
+use Rattle.journal_layout.proofs.Exact.{journal-held, sound-journal}
+use Rattle.journal_layout.specs.Test.{soundIn, heldOf}
+use Rattle.journal.specs.Arrivals.{span, arrivals, spansOf, lastIndex}
+use Rattle.journal.specs.Newest.{keySize, keyFrom, newestAmong, newestBy, newestOf, newestPart, Lies, isAccount, lastHeldFrom, lastPart}
+use Rattle.journal.specs.declared.Found.{Found}
+use Rattle.journal.specs.declared.Found.the-variants.{InJournal, InFile, Refused}
+use Rattle.journal.specs.Plans.{partsFrom, spansFrom, Reading, Searchable, Finds, Planned}
+use Rattle.journal.specs.declared.Plan.{Plan}
+use Rattle.journal.specs.declared.Delivery.the-variants as D
+use Rattle.journal.specs.declared.Delivery.the-variants.{Done}
+use Rattle.journal.specs.Delivery.{Outcome, delivered, refused, run, linesIn, outcomeBy, outcomeOf}
+use Rattle.journal.specs.Answers.{answerOf}
 
 -- ---- one record's account
 
@@ -140,3 +151,151 @@ index-most k i last (s ∷ ss) h = let p = index-most k (i + 1) (pick (sameKey (
     by : (t : Bool) → pick t (i + 1) last ≤ i + 1
     by true = omega arith
     by false = omega arith
+
+-- ---- at the returns
+
+reading-length : (f : Form) (hs : List (List ℕ)) (P : List Statement) → Reading f hs P → length P ≡ length hs
+reading-length f [] [] r = refl
+reading-length f [] (s ∷ P) r = absurd r
+reading-length f (h ∷ hs) [] r = absurd r
+reading-length f (h ∷ hs) (s ∷ P) r = ap suc (reading-length f hs P (r .1))
+
+length-parts : (n p : ℕ) (places ends b : List ℕ) → length (partsFrom n p places ends b) ≡ n
+unfolding partsFrom
+length-parts zero p places ends b = refl
+length-parts (suc n) p places ends b = ap suc (length-parts n (p + 1) places ends b)
+
+span-at : (n p i : ℕ) (places ends : List ℕ) → i < n → getD (spansFrom n p places ends) i (span 0 0) ≡ span (getD places (p + i) 0) (getD ends (p + i) 0 - getD places (p + i) 0)
+unfolding spansFrom
+span-at zero p i places ends h = absurd (omega arith)
+span-at (suc n) p zero places ends h = rw (add-zero p)
+span-at (suc n) p (suc i) places ends h = let z : p + 1 + i ≡ p + suc i = omega arith in rw z at (span-at n (p + 1) i places ends (omega arith))
+
+module _ {j : List ℕ} {f : Form} {b places ends : List ℕ} {count held : ℕ} (g : Searchable j f b places ends count held) (x : List ℕ) where
+  abbrev H : List Statement
+  H = heldOf j
+
+  abbrev S : List Statement
+  S = statementsOf july f b
+
+  abbrev found : Found
+  found = pick (eqb (length x) keySize) (newestAmong f (keyFrom x) H S) (Refused 25 0)
+
+  other-size : (length x ≡ keySize → ⊥) → Refused 25 0 ≡ found
+  other-size h = sym (rw (ne-eqb (length x) keySize h))
+
+  module _ (size : length x ≡ keySize) {p : ℕ} (q : p ≡ lastPart 0 0 (partsFrom count 0 places ends b) x) where
+    index : p ≡ lastIndex (keyFrom x) 0 0 (arrivals H S)
+    index = q ∙ last-part-is f x 0 0 (partsFrom count 0 places ends b) (g .list) (g .reads) ∙ ap (lastIndex (keyFrom x) 0 0) (g .new)
+
+    -- it is one of the parts
+    pub part-there : p ≤ count
+    part-there =
+        let m = index-most (keyFrom x) 0 0 (g .list) (omega arith) in
+        let e : p ≡ lastIndex (keyFrom x) 0 0 (g .list) = q ∙ last-part-is f x 0 0 (partsFrom count 0 places ends b) (g .list) (g .reads) in
+        omega (arith, m, e, reading-length f (partsFrom count 0 places ends b) (g .list) (g .reads), length-parts count 0 places ends b)
+
+    in-file : 0 < p → InFile (getD places (p - 1) 0) (getD ends (p - 1) 0 - getD places (p - 1) 0) (lineEnd f) ≡ found
+    unfolding newestAmong
+    in-file h =
+        let l = part-there in
+        let s : getD (spansOf (widthOf recordSize f) H 0 S) (p - 1) (span 0 0) ≡ span (getD places (p - 1) 0) (getD ends (p - 1) 0 - getD places (p - 1) 0) =
+        rw (← g .spans) (rw (zero-add (p - 1)) at (span-at count 0 (p - 1) places ends (omega arith))) in
+        sym (rw (eq-eqb (length x) keySize size, ← index, lt-ltb 0 p h, s))
+
+    module _ (none : p ≤ 0) {e : ℕ} (r : e ≡ lastHeldFrom held 0 0 j x) where
+      held-at : e ≡ lastIndex (keyFrom x) 0 0 H
+      held-at = r ∙ rw (g .entry) (last-held-is x (journal-held (sound-journal j (g .sound)) .holding))
+
+      nowhere : e ≡ 0 → Refused 25 0 ≡ found
+      unfolding newestAmong
+      nowhere h = sym (rw (eq-eqb (length x) keySize size, ← index, le-ltb 0 p none, ← held-at, h))
+
+      in-journal : {y : Entry} → (e ≡ 0 → ⊥) → y ≡ entryIn j (e - 1) → InJournal (tableSize + recordSize * y .first) (recordSize * y .records) ≡ found
+      unfolding newestAmong
+      in-journal h w =
+          let m = index-most (keyFrom x) 0 0 H (omega arith) in
+          let l : e - 1 < length H = omega (arith, m, held-at) in
+          let t = w ∙ there-fields (journal-held (sound-journal j (g .sound)) .holding) (e - 1) l in
+          sym (rw (eq-eqb (length x) keySize size, ← index, le-ltb 0 p none, ← held-at, lt-ltb 0 e (omega arith), t))
+
+  -- and each lies where it says
+  pub sizeless : (length x ≡ keySize → ⊥) → Finds found j b (Refused 25 0)
+  sizeless h = record { same = other-size h; lies = tt }
+
+  module _ (size : length x ≡ keySize) {p : ℕ} (q : p ≡ lastPart 0 0 (partsFrom count 0 places ends b) x) where
+    pub found-file : 0 < p → Finds found j b (InFile (getD places (p - 1) 0) (getD ends (p - 1) 0 - getD places (p - 1) 0) (lineEnd f))
+    found-file h =
+        let l = part-there size q in
+        record { same = in-file size q h; lies = omega (arith, g .inside .rises (p - 1) (omega arith), g .inside .within (p - 1) (omega arith)) }
+
+    module _ (none : p ≤ 0) {e : ℕ} (r : e ≡ lastHeldFrom held 0 0 j x) where
+      pub found-nowhere : e ≡ 0 → Finds found j b (Refused 25 0)
+      found-nowhere h = record { same = nowhere size q none r h; lies = tt }
+
+      pub found-journal : {y : Entry} → (e ≡ 0 → ⊥) → y ≡ entryIn j (e - 1) → Finds found j b (InJournal (tableSize + recordSize * y .first) (recordSize * y .records))
+      found-journal {y} h w =
+          let o = journal-held (sound-journal j (g .sound)) .holding in
+          let m = index-most (keyFrom x) 0 0 H (omega arith) in
+          let l : e - 1 < length H = omega (arith, m, held-at size q none r) in
+          let t = w ∙ there-fields o (e - 1) l in
+          record { same = in-journal size q none r h w; lies = rw t (there-inside o (e - 1) l) }
+
+-- ---- delivery's refusals first
+
+module _ {j : List ℕ} {f : Form} {b : List ℕ} {plan : Plan} (g : Planned j f b plan) (x : List ℕ) where
+  -- only a sound journal is delivered to
+  is-sound : {s h : ℕ} → answerOf (outcomeOf j f b) ≡ Done s h → soundIn j ≡ true
+  unfolding outcomeOf
+  is-sound {s} {h} q = by (soundIn j) q
+    where
+      by : (t : Bool) → answerOf (pick t (outcomeBy (checkOf july f b) (run (linesIn j) (heldOf j) 0 0 0 (statementsOf july f b))) (refused 21 0)) ≡ Done s h → t ≡ true
+      by true q = refl
+      by false q = absurd (let z : _≡_ {A = ℕ} 0 1 = cc in omega arith)
+
+  -- a plan without a refusal can be searched
+  pub searchable : {s h : ℕ} → plan .answer ≡ Done s h → Searchable j f b (plan .places) (plan .ends) (plan .count) (plan .entry)
+  searchable {s} {h} e =
+      let a = g .arrived s h e in
+      let w = g .storable in
+      record {
+        list = w .list;
+        sound = is-sound (sym (g .answer) ∙ e);
+        entry = a .entry;
+        named = w .named;
+        inside = w .inside;
+        reads = w .reads;
+        new = a .new;
+        spans = a .spans;
+      }
+
+  pub found-planned : {s h : ℕ} {r : Found} → plan .answer ≡ Done s h
+      → Finds (pick (eqb (length x) keySize) (newestAmong f (keyFrom x) (heldOf j) (statementsOf july f b)) (Refused 25 0)) j b r → Finds (newestOf j f b x) j b r
+  unfolding newestOf
+  found-planned {s} {h} e r = record { same = r .same ∙ by (outcomeOf j f b) (sym (g .answer) ∙ e); lies = r .lies }
+    where
+      by : (o : Outcome) → answerOf o ≡ Done s h → {y : Found} → y ≡ newestBy o y
+      by (delivered L a c) q = refl
+      by (refused n k) q = absurd (let z : _≡_ {A = ℕ} 0 1 = cc in omega arith)
+
+  pub found-refused : {n k : ℕ} → plan .answer ≡ D.Refused n k → Finds (newestOf j f b x) j b (Refused n k)
+  unfolding newestOf
+  found-refused {n} {k} e = record { same = by (outcomeOf j f b) (sym (g .answer) ∙ e) _; lies = tt }
+    where
+      by : (o : Outcome) → answerOf o ≡ D.Refused n k → (y : Found) → Refused n k ≡ newestBy o y
+      by (delivered L a c) q y = absurd (let z : _≡_ {A = ℕ} 0 1 = cc in omega arith)
+      by (refused m l) q y = let v : m ≡ n = cc in let w : l ≡ k = cc in rw (v, w)
+
+-- the part that a place names
+module _ {j : List ℕ} (f : Form) {b : List ℕ} (x : List ℕ) {r : Found} (g : Finds (newestOf j f b x) j b r) where
+  pub part-journal : {y n : ℕ} → r ≡ InJournal y n → (y + n ≤ length j) × (take (y + n - y) (drop y j) ≡ newestPart j f b x)
+  unfolding newestPart
+  part-journal {y} {n} e = let l : Lies (InJournal y n) (length j) (length b) = rw e at (g .lies) in (l, cut y n j ∙ rw (← g .same, e))
+
+  pub part-file : {y n z : ℕ} → r ≡ InFile y n z → (y + n ≤ length b) × (take (y + n - y) (drop y b) ≡ newestPart j f b x)
+  unfolding newestPart
+  part-file {y} {n} {z} e = let l : Lies (InFile y n z) (length j) (length b) = rw e at (g .lies) in (l, cut y n b ∙ rw (← g .same, e))
+
+  pub part-none : {n k : ℕ} → r ≡ Refused n k → [] ≡ newestPart j f b x
+  unfolding newestPart
+  part-none e = sym (rw (← g .same, e))

@@ -1,10 +1,17 @@
--- No second answer meets the contract, and no second final content.
+-- No second answer meets a contract, and no second final content.
 use mathlib.Core.Path.{_≡_, sym, _∙_}
 use mathlib.Core.List.{List}
 use Prim.Native.Nat.{ℕ}
 use Rattle.framing.specs.declared.Form.{Form}
 use Rattle.journal.specs.declared.Delivery.{Delivery}
-use Rattle.journal.specs.Answers.{Delivers}
+use Rattle.journal.specs.Answers.{Delivers, NewestPlace, NewestPart}
+use Rattle.journal.specs.declared.Found.{Found}
 
 pub one-deliver : {j : List ℕ} {f : Form} {b : List ℕ} {r q : Delivery} {x y : List ℕ} → Delivers j f b r x → Delivers j f b q y → (r ≡ q) × (x ≡ y)
 one-deliver g h = (g .answer ∙ sym (h .answer), g .content ∙ sym (h .content))
+
+pub one-newest-place : {j : List ℕ} {f : Form} {b x : List ℕ} {r q : Found} → NewestPlace j f b x r → NewestPlace j f b x q → r ≡ q
+one-newest-place g h = g .answer ∙ sym (h .answer)
+
+pub one-newest : {j : List ℕ} {f : Form} {b x r q : List ℕ} → NewestPart j f b x r → NewestPart j f b x q → r ≡ q
+one-newest g h = g .answer ∙ sym (h .answer)

@@ -1,9 +1,8 @@
 -- What a run of statements leaves: the list held before, and behind it those that are new, in order of first arrival.
-use mathlib.Core.Path.{_≡_, refl, sym, ap, _∙_}
-use mathlib.Core.Bool.{Bool, true, false, _||_}
+use mathlib.Core.Path.{_≡_, refl, sym, _∙_}
+use mathlib.Core.Bool.{Bool, true, false}
 use mathlib.Core.List.{List, [], _∷_, _++_, append-assoc, append-nil}
-use Prim.Native.Nat.{ℕ, _+_, _-_, _*_, _<_, _≤_}
-use native.Mathlib.Nat.{add-zero}
+use Prim.Native.Nat.{ℕ, _+_, _-_, _≤_}
 use native.Mathlib.Omega.{arith}
 use lib.Dec.{leb, ltb}
 use lib.ListN.{length, length-append}
@@ -12,9 +11,8 @@ use Rattle.framing.specs.Files.{All}
 use Rattle.grammar.specs.Statements.{Statement}
 use Rattle.grammar.specs.Files.{Writable}
 use Rattle.grammar.specs.Parts.{sizeOf}
-use Rattle.grammar.proofs.Tests.{clash}
-use Rattle.records.specs.July.{recordSize, july}
-use Rattle.entries.specs.Entries.{mostEntries, tableSize}
+use Rattle.records.specs.July.{july}
+use Rattle.entries.specs.Entries.{mostEntries}
 use Rattle.journal_layout.specs.declared.Judgement.{Judgement}
 use Rattle.journal_layout.specs.declared.Judgement.the-variants.{Held, First, After}
 use Rattle.journal_layout.specs.Chains.{heldAmong, lastAmong, judgementOf, followsBy, follows}
@@ -22,7 +20,7 @@ use Rattle.journal_layout.specs.Layout.{mostLines, linesOf, layoutOf, Keepable,
 use Rattle.journal_layout.proofs.Chain.{Row, row-snoc, row-distinct, row-chained, row-of}
 use Rattle.journal_layout.proofs.Adding.{lines-append, all-append}
 use Rattle.journal_layout.proofs.Exact.{one-lines}
-use Rattle.journal.specs.Delivery.{Verdict, hold, store, refuse, isHeld, verdictBy, verdictOf, Outcome, delivered, refused, proceed, run}
+use Rattle.journal.specs.Delivery.{Verdict, hold, store, refuse, verdictBy, verdictOf, delivered, refused, proceed, run}
 use Rattle.journal.specs.Arrivals.{arrivals}
 use Rattle.journal.proofs.Values.{not-held, has-room}
 

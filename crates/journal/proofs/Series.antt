@@ -1,11 +1,11 @@
 -- Demand 3 holds of opening and delivery.
-use mathlib.Core.Path.{_≡_, refl, sym, ap, ap₂, _∙_}
+use mathlib.Core.Path.{_≡_, refl, sym, ap, _∙_}
 use mathlib.Core.Bool.{Bool, true, false, _||_}
 use mathlib.Core.List.{List, [], _∷_, _++_, append-nil, append-assoc}
-use Prim.Native.Nat.{ℕ, zero, suc, _+_, _-_, _*_, _<_, _≤_}
+use Prim.Native.Nat.{ℕ, suc, _+_}
 use native.Mathlib.Nat.{zero-add}
 use native.Mathlib.Omega.{arith}
-use lib.ListN.{length, length-append}
+use lib.ListN.{length}
 use lib.IntN.{ℤ, _+ℤ_}
 use Rattle.zones.specs.Choice.{pick}
 use Rattle.zones.proofs.Copies.{equal-same}
@@ -14,22 +14,21 @@ use Rattle.framing.specs.Files.{All}
 use Rattle.grammar.specs.declared.Key.{Key}
 use Rattle.grammar.specs.Record.{sameKey}
 use Rattle.grammar.specs.Statements.{Movement, Statement, plus}
-use Rattle.grammar.specs.Files.{Reads, Writable, statementsOf, checkOf}
+use Rattle.grammar.specs.Files.{Reads, Writable, statementsOf}
 use Rattle.grammar.specs.Parts.{sizeOf}
 use Rattle.records.specs.July.{july}
 use Rattle.records.proofs.Theorems.{counts, reads, unique}
 use Rattle.bodies.specs.Bodies.{bodyOf, identical}
-use Rattle.journal_layout.specs.Chains.{heldAmong, Links, Chained, ofAccount, Distinct}
+use Rattle.journal_layout.specs.Chains.{heldAmong, Chained, ofAccount}
 use Rattle.journal_layout.specs.Layout.{isLength, layoutOf, Journal, openedOf}
-use Rattle.journal.specs.declared.Delivery.{Delivery}
-use Rattle.journal.specs.declared.Delivery.the-variants.{Done, Refused}
-use Rattle.journal.specs.Delivery.{Outcome, delivered, refused, run, linesIn, outcomeBy, outcomeOf, contentBy, contentOf}
+use Rattle.journal.specs.declared.Delivery.the-variants.{Done}
+use Rattle.journal.specs.Delivery.{Outcome, delivered, refused, run, linesIn, outcomeOf, contentOf}
 use Rattle.journal.specs.Answers.{answerOf}
-use Rattle.journal.specs.Arrivals.{arrivals, movementsIn, lastBalance, Summed}
-use Rattle.journal.specs.Series.{Event, deliver, After, Deliver, acceptedBy, after, accepted, heldAfter, Demand3}
+use Rattle.journal.specs.Arrivals.{arrivals, movementsIn, Summed}
+use Rattle.journal.specs.Series.{Event, deliver, Deliver, acceptedBy, after, accepted, heldAfter, Demand3}
 use Rattle.journal.proofs.Values.{held-append}
 use Rattle.journal.proofs.Runs.{held-verdict}
-use Rattle.journal.proofs.Delivered.{lines-are, outcome-by, Stored, stored, unchanged, opened}
+use Rattle.journal.proofs.Delivered.{lines-are, outcome-by, stored, unchanged, opened}
 
 -- ---- arrivals
 

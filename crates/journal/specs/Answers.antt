@@ -5,9 +5,9 @@ use Prim.Native.Nat.{ℕ}
 use Rattle.framing.specs.declared.Form.{Form}
 use Rattle.journal.specs.Delivery.{Outcome, delivered, refused, outcomeOf, contentOf}
 use Rattle.journal.specs.Newest.{newestOf, newestPart}
-use Rattle.journal.specs.declared.Newest.{Newest}
-use Rattle.journal.specs.declared.Newest.the-variants as N
-use Rattle.journal.specs.declared.Newest.the-variants.{InJournal, InFile}
+use Rattle.journal.specs.declared.Found.{Found}
+use Rattle.journal.specs.declared.Found.the-variants as N
+use Rattle.journal.specs.declared.Found.the-variants.{InJournal, InFile}
 use Rattle.journal.specs.declared.Delivery.{Delivery}
 use Rattle.journal.specs.declared.Delivery.the-variants.{Done, Refused}
 
@@ -31,7 +31,7 @@ pub record PaperNewest : Type 0 where
   pub len : ℕ
   pub line-end : ℕ
 
-abbrev pub paperNewest : Newest → PaperNewest
+abbrev pub paperNewest : Found → PaperNewest
 paperNewest (InJournal x n) = record { number = 0; at = 0; source = 1; first = x; len = n; line-end = 0 }
 paperNewest (InFile x n e) = record { number = 0; at = 0; source = 2; first = x; len = n; line-end = e }
 paperNewest (N.Refused n r) = record { number = n; at = r; source = 0; first = 0; len = 0; line-end = 0 }
@@ -47,7 +47,7 @@ pub record Delivers (j : List ℕ) (f : Form) (b : List ℕ) (r : Delivery) (j�
   pub content : j′ ≡ contentOf j f b
 
 -- newest_place
-pub record NewestPlace (j : List ℕ) (f : Form) (b x : List ℕ) (r : Newest) : Type 0 where
+pub record NewestPlace (j : List ℕ) (f : Form) (b x : List ℕ) (r : Found) : Type 0 where
   pub answer : r ≡ newestOf j f b x
 
 -- newest

@@ -1,7 +1,7 @@
 -- The newest statement of an account: from the file, the last one that a delivery now would store; else the last held.
 use mathlib.Core.Bool.{Bool, false}
 use mathlib.Core.List.{List, [], _∷_}
-use Prim.Native.Nat.{ℕ, zero, suc, _+_, _-_, _*_}
+use Prim.Native.Nat.{ℕ, zero, suc, _+_, _-_, _*_, _≤_}
 use lib.Dec.{eqb, ltb}
 use lib.ListN.{length, take, drop, getD}
 use Rattle.zones.specs.Choice.{pick}
@@ -17,10 +17,10 @@ use Rattle.records.specs.July.{recordSize, july, keyIn}
 use Rattle.contents.specs.Heads.{recordAtOf}
 use Rattle.entries.specs.Entries.{lineAt, bodyAt}
 use Rattle.journal_layout.specs.Test.{heldOf}
-use Rattle.journal.specs.declared.Newest.{Newest}
-use Rattle.journal.specs.declared.Newest.the-variants.{InJournal, InFile, Refused}
+use Rattle.journal.specs.declared.Found.{Found}
+use Rattle.journal.specs.declared.Found.the-variants.{InJournal, InFile, Refused}
 use Rattle.journal.specs.Delivery.{Outcome, delivered, refused, outcomeOf}
-use Rattle.journal.specs.Arrivals.{Span, span, arrivals, spansOf, lastIndex}
+use Rattle.journal.specs.Arrivals.{span, arrivals, spansOf, lastIndex}
 
 -- a key is 25 bytes: bank, branch, currency, decimals, account
 abbrev pub keySize : ℕ
@@ -37,7 +37,7 @@ keyFrom x =
     }
 
 -- among those of the file that are new behind the held ones; then among the held; else 25
-unfoldable pub newestAmong : Form → Key → (held sent : List Statement) → Newest
+unfoldable pub newestAmong : Form → Key → (held sent : List Statement) → Found
 newestAmong f k held sent =
     let w = widthOf recordSize f in
     let p = lastIndex k 0 0 (arrivals held sent) in
@@ -47,23 +47,29 @@ newestAmong f k held sent =
     (pick (ltb 0 e) (InJournal (lineAt (recordsBefore (e - 1) held)) (recordSize * sizeOf (getD held (e - 1) nothing))) (Refused 25 0))
 
 -- the delivery's refusals come first; no account has a key of another length
-abbrev pub newestBy : Outcome → Newest → Newest
+abbrev pub newestBy : Outcome → Found → Found
 newestBy (delivered ss s h) x = x
 newestBy (refused n r) x = Refused n r
 
-unfoldable pub newestOf : List ℕ → Form → List ℕ → List ℕ → Newest
+unfoldable pub newestOf : List ℕ → Form → List ℕ → List ℕ → Found
 newestOf j f b x =
     newestBy (outcomeOf j f b)
     (pick (eqb (length x) keySize) (newestAmong f (keyFrom x) (heldOf j) (statementsOf july f b)) (Refused 25 0))
 
 -- the part that a place names, of whichever holds it; empty on refusal
-abbrev pub partBy : Newest → (journal file : List ℕ) → List ℕ
+abbrev pub partBy : Found → (journal file : List ℕ) → List ℕ
 partBy (InJournal first len) j b = take len (drop first j)
 partBy (InFile first len end) j b = take len (drop first b)
 partBy (Refused n r) j b = []
 
 unfoldable pub newestPart : List ℕ → Form → List ℕ → List ℕ → List ℕ
 newestPart j f b x = partBy (newestOf j f b x) j b
+
+-- a place lies in what it names
+abbrev pub Lies : Found → (journal file : ℕ) → Type 0
+Lies (InJournal first len) j b = first + len ≤ j
+Lies (InFile first len end) j b = first + len ≤ b
+Lies (Refused n r) j b = Unit
 
 -- what the code looks at: a record's account, the bodies of the entries, the parts of a file
 unfoldable pub isAccount : (x opening : List ℕ) → Bool

@@ -1,6 +1,6 @@
 -- What the code works on: the parts of a file that are to be stored, what they say of a statement, and how they are written into the journal.
 use mathlib.Core.Path.{_≡_}
-use mathlib.Core.Bool.{Bool, false, _||_}
+use mathlib.Core.Bool.{Bool, true, false, _||_}
 use mathlib.Core.List.{List, [], _∷_, _++_}
 use Prim.Native.Nat.{ℕ, zero, suc, _+_, _-_, _*_, _<_, _≤_}
 use lib.ListN.{length, take, drop, getD, replicate}
@@ -17,11 +17,13 @@ use Rattle.entries.specs.Entries.{mostEntries, entrySize, lineAt}
 use Rattle.journal_layout.specs.declared.Judgement.{Judgement}
 use Rattle.journal_layout.specs.declared.Judgement.the-variants.{Held}
 use Rattle.journal_layout.specs.Layout.{entryOf}
-use Rattle.journal_layout.specs.Test.{heldOf, laterOf, judgedBy}
+use Rattle.journal_layout.specs.Test.{soundIn, heldOf, laterOf, judgedBy}
 use Rattle.journal.specs.Delivery.{Verdict, hold, store, refuse, isHeld, contentOf, outcomeOf}
 use Rattle.journal.specs.declared.Delivery.the-variants.{Done, Refused}
 use Rattle.journal.specs.declared.Plan.{Plan}
 use Rattle.journal.specs.Answers.{answerOf}
+use Rattle.journal.specs.declared.Found.{Found}
+use Rattle.journal.specs.Newest.{Lies}
 use Rattle.journal.specs.Arrivals.{Span, span, arrivals, spansOf}
 
 -- n parts of a file, from the p-th on: each between its two places
@@ -119,3 +121,19 @@ pub record Planned (j : List ℕ) (f : Form) (b : List ℕ) (r : Plan) : Type 0 
   pub answer : r .answer ≡ answerOf (outcomeOf j f b)
   pub content : writtenAll (r .entry) (r .line) (storable .list) j ≡ contentOf j f b
   pub arrived : (s h : ℕ) → r .answer ≡ Done s h → Arrived j f b r (storable .list)
+
+-- the parts and the entries that hold every statement after a delivery without a refusal
+pub record Searchable (j : List ℕ) (f : Form) (b places ends : List ℕ) (count held : ℕ) : Type 0 where
+  pub list : List Statement
+  pub sound : soundIn j ≡ true
+  pub entry : held ≡ length (heldOf j)
+  pub named : (count ≤ length places) × (count ≤ length ends)
+  pub inside : Inside count places ends b
+  pub reads : Reading f (partsFrom count 0 places ends b) list
+  pub new : list ≡ arrivals (heldOf j) (statementsOf july f b)
+  pub spans : spansFrom count 0 places ends ≡ spansOf (widthOf recordSize f) (heldOf j) 0 (statementsOf july f b)
+
+-- what was found, and that it lies there
+pub record Finds (answer : Found) (j b : List ℕ) (r : Found) : Type 0 where
+  pub same : r ≡ answer
+  pub lies : Lies r (length j) (length b)

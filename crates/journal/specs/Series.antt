@@ -9,7 +9,7 @@ use Rattle.grammar.specs.declared.Key.{Key}
 use Rattle.grammar.specs.Statements.{Statement}
 use Rattle.grammar.specs.Files.{Reads, statementsOf}
 use Rattle.records.specs.July.{july}
-use Rattle.journal_layout.specs.Chains.{Links, Chained, ofAccount, Distinct}
+use Rattle.journal_layout.specs.Chains.{Chained, ofAccount, Distinct}
 use Rattle.journal_layout.specs.Layout.{isLength, Journal}
 use Rattle.journal.specs.declared.Delivery.{Delivery}
 use Rattle.journal.specs.declared.Delivery.the-variants.{Done, Refused}

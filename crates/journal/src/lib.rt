@@ -2,21 +2,23 @@
 ghost use mathlib.Core.Path.{_≡_};
 ghost use mathlib.Core.Bool.{true};
 ghost use Prim.Native.Nat.{_+_, _*_, _<_, _≤_};
+ghost use lib.Dec.{eqb};
 ghost use lib.ListN.{length};
 ghost use mathlib.Core.List.{List, _∷_, []};
 ghost use Rattle.zones.specs.Choice.{pick};
 ghost use Rattle.framing.specs.Files.{lineEnd};
 ghost use Rattle.grammar.specs.Statements.{Statement};
-ghost use Rattle.grammar.specs.Files.{Reads};
+ghost use Rattle.grammar.specs.Files.{Reads, statementsOf};
 ghost use Rattle.grammar.specs.Parts.{sizeOf};
 ghost use Rattle.records.specs.July.{july};
 ghost use Rattle.records.specs.Looks.{lookOf};
 ghost use Rattle.entries.specs.Entries.{mostEntries, lineAt};
 ghost use Rattle.journal.specs.Delivery.{isHeld, verdictBy};
-ghost use Rattle.journal_layout.specs.Test.{soundIn};
-ghost use Rattle.journal.specs.Newest.{keySize, isAccount, lastHeldFrom, lastPart};
-ghost use Rattle.journal.specs.Plans.{partsFrom, Inside, judgedIn, judgedAll, verdictNumber, Reading, written, writtenAll, Accepts, refusedPlan, Storable, Planned};
-ghost use Rattle.journal.specs.Answers.{Delivers};
+ghost use Rattle.journal_layout.specs.Test.{soundIn, heldOf};
+ghost use Rattle.journal.specs.declared.Found.the-variants.{Refused};
+ghost use Rattle.journal.specs.Newest.{keySize, keyFrom, newestAmong, newestOf, isAccount, lastHeldFrom, lastPart};
+ghost use Rattle.journal.specs.Plans.{partsFrom, Inside, judgedIn, judgedAll, verdictNumber, Reading, written, writtenAll, Accepts, refusedPlan, Storable, Planned, Searchable, Finds};
+ghost use Rattle.journal.specs.Answers.{Delivers, NewestPlace, NewestPart};
 use framing::Form;
 use journal_layout::Judgement;
 use statements::Checked;
@@ -28,7 +30,7 @@ pub enum Delivery {
 }
 
 // Where the newest statement of an account stands: in the journal, without line ends, or in the file, with its line-end number.
-pub enum Newest {
+pub enum Found {
     InJournal { first: usize, len: usize },
     InFile { first: usize, len: usize, line_end: u64 },
     Refused { number: u64, record: u64 },
@@ -320,4 +322,86 @@ fn last_planned(file: &[u8], places: &[u32], ends: &[u32], count: usize, key: &[
         p += 1;
     }
     last
+}
+
+// The newest among planned and held statements.
+fn newest_planned(journal: &[u8], form: Form, file: &[u8], places: &[u32], ends: &[u32], count: usize, held: usize, key: &[u8]) -> Found
+    requires { ⌜ Searchable (now journal) form (now file) (now places) (now ends) count held ⌝ }
+    ensures { λ r. ⌜ Finds (pick (eqb (length (now (key .entry))) keySize) (newestAmong form (keyFrom (now (key .entry))) (heldOf (now (journal .entry))) (statementsOf july form (now (file .entry)))) (Refused 25 0)) (now (journal .entry)) (now (file .entry)) r ⌝ }
+{
+    if key.len() != 25 {
+        return Found::Refused {
+            number: 25,
+            record: 0,
+        };
+    }
+    let p = last_planned(file, places, ends, count, key);
+    if 0 < p {
+        let first = places[p - 1] as usize;
+        let end = ends[p - 1] as usize;
+        return Found::InFile {
+            first,
+            len: end - first,
+            line_end: form.line_end,
+        };
+    }
+    let e = last_held(journal, held, key);
+    if e == 0 {
+        return Found::Refused {
+            number: 25,
+            record: 0,
+        };
+    }
+    let x = entries::entry_at(journal, e - 1);
+    Found::InJournal {
+        first: 7680 + 120 * x.first,
+        len: 120 * x.records,
+    }
+}
+
+// Delivery's refusals first.
+fn find_newest(journal: &[u8], form: Form, file: &[u8], key: &[u8]) -> Found
+    ensures { λ r. ⌜ Finds (newestOf (now (journal .entry)) form (now (file .entry)) (now (key .entry))) (now (journal .entry)) (now (file .entry)) r ⌝ }
+{
+    let plan = planned(journal, form, file);
+    let places = plan.places;
+    let ends = plan.ends;
+    let answer = plan.answer;
+    match answer {
+        Delivery::Done { stored: _, held: _ } => {
+            newest_planned(journal, form, file, &places, &ends, plan.count, plan.entry, key)
+        }
+        Delivery::Refused { number, record } => Found::Refused { number, record },
+    }
+}
+
+// Where the newest statement of an account stands: the last that a delivery of the file now would store, else the last held. Delivery's refusals, then 25.
+pub fn newest_place(journal: &[u8], form: Form, file: &[u8], key: &[u8]) -> Found
+    ensures { λ r. ⌜ NewestPlace (now (journal .entry)) form (now (file .entry)) (now (key .entry)) r ⌝ }
+{
+    find_newest(journal, form, file, key)
+}
+
+// The newest statement of an account, as a part of whichever holds it. Empty on refusal.
+pub fn newest<'a>(journal: &'a [u8], form: Form, file: &'a [u8], key: &[u8]) -> &'a [u8]
+    ensures { λ r. ⌜ NewestPart (now (journal .entry)) form (now (file .entry)) (now (key .entry)) (now r) ⌝ }
+{
+    match find_newest(journal, form, file, key) {
+        Found::InJournal { first, len } => {
+            let end = first + len;
+            &journal[first..end]
+        }
+        Found::InFile {
+            first,
+            len,
+            line_end: _,
+        } => {
+            let end = first + len;
+            &file[first..end]
+        }
+        Found::Refused {
+            number: _,
+            record: _,
+        } => &journal[..0],
+    }
 }
