@@ -9,4 +9,6 @@ pub mod Delivered
 pub mod Series
 pub mod Accounts
 pub mod Latest
+pub mod Promises
+pub mod Wrong
 pub mod One

@@ -158,7 +158,7 @@ after-append D j [] fs = refl
 after-append D j (deliver f b ∷ es) fs = after-append D (D j f b .journal) es fs
 
 -- an answer without a refusal
-answered : (o : Outcome) {s h : ℕ} → answerOf o ≡ Done s h → (L : List Statement) × (o ≡ delivered L s h)
+pub answered : (o : Outcome) {s h : ℕ} → answerOf o ≡ Done s h → (L : List Statement) × (o ≡ delivered L s h)
 answered (delivered L x y) {s} {h} e = let p : x ≡ s = cc in let q : y ≡ h = cc in (L, rw (p, q))
 answered (refused n k) e = absurd (let z : _≡_ {A = ℕ} 0 1 = cc in omega arith)
 

@@ -4,3 +4,4 @@ pub mod Newest
 pub mod Answers
 pub mod Plans
 pub mod Series
+pub mod Promises
