@@ -1,61 +1,81 @@
-// What the collector's host program calls. Each function answers one number that holds its whole answer.
+// What the collector's host program calls. Each function answers one number that holds its whole answer, by `specs/Packing.antt`.
+ghost use mathlib.Core.Path.{_≡_};
+ghost use Rattle.collector.specs.Packing.{Fits, pack as packOf, answered as answeredOf, refused as refusedOf};
+ghost use Rattle.collector.specs.Answers.{CheckNumber, OpenNumber, DeliverNumber, EntryNumber};
 use framing::Form;
 use journal::Delivery;
 use journal_layout::Opening;
 use readers::Place;
 use statements::Checked;
 
-// Bits 0 to 19 a, 20 to 39 b, 40 to 59 c, 60 to 63 the kind: 0 answered, 1 refused.
-fn pack(kind: u64, a: u64, b: u64, c: u64) -> u64 {
-    a % 1048576
-        + 1048576 * (b % 1048576)
-        + 1099511627776 * (c % 1048576)
-        + 1152921504606846976 * (kind % 16)
+// Bits 0 to 19 a, 20 to 39 b, 40 to 59 c, 60 to 63 the kind.
+fn pack(kind: u64, a: u64, b: u64, c: u64) -> u64
+    requires { ⌜ Fits kind a b c ⌝ }
+    ensures { λ r. ⌜ r ≡ packOf kind a b c ⌝ }
+{
+    a + 1048576 * b + 1099511627776 * c + 1152921504606846976 * kind
+}
+
+fn answered(a: u64, b: u64, c: u64) -> u64
+    requires { ⌜ Fits 0 a b c ⌝ }
+    ensures { λ r. ⌜ r ≡ answeredOf a b c ⌝ }
+{
+    pack(0, a, b, c)
+}
+
+fn refused(number: u64, record: u64) -> u64
+    requires { ⌜ Fits 1 «record» number 0 ⌝ }
+    ensures { λ r. ⌜ r ≡ refusedOf number «record» ⌝ }
+{
+    pack(1, record, number, 0)
 }
 
 // The numbers of statements, movements and complements of a file.
 #[no_mangle]
-pub extern "C" fn crownhazel_check(line_end: u64, file: &[u8]) -> u64 {
+pub extern "C" fn crownhazel_check(line_end: u64, file: &[u8]) -> u64
+    ensures { λ r. ⌜ CheckNumber «line_end» (now (file .entry)) r ⌝ }
+{
     match statements::check(Form { line_end }, file) {
         Checked::Accepted {
             statements,
             movements,
             complements,
-        } => pack(0, statements, movements, complements),
-        Checked::Refused { number, record } => pack(1, record, number, 0),
+        } => answered(statements, movements, complements),
+        Checked::Refused { number, record } => refused(number, record),
     }
 }
 
 // Blanks a buffer of a right length.
 #[no_mangle]
-pub extern "C" fn crownhazel_open(journal: &mut [u8]) -> u64 {
+pub extern "C" fn crownhazel_open(journal: &mut [u8]) -> u64
+    ensures { λ r. ⌜ OpenNumber (now (journal .entry)) r (now (journal .exit)) ⌝ }
+{
     match journal_layout::open(journal) {
-        Opening::Opened => pack(0, 0, 0, 0),
-        Opening::Refused { number, record } => pack(1, record, number, 0),
+        Opening::Opened => answered(0, 0, 0),
+        Opening::Refused { number, record } => refused(number, record),
     }
 }
 
 // How many statements of a file were stored, and how many were held.
 #[no_mangle]
-pub extern "C" fn crownhazel_deliver(journal: &mut [u8], line_end: u64, file: &[u8]) -> u64 {
+pub extern "C" fn crownhazel_deliver(journal: &mut [u8], line_end: u64, file: &[u8]) -> u64
+    ensures { λ r. ⌜ DeliverNumber (now (journal .entry)) «line_end» (now (file .entry)) r (now (journal .exit)) ⌝ }
+{
     match journal::deliver(journal, Form { line_end }, file) {
-        Delivery::Done { stored, held } => pack(0, stored, held, 0),
-        Delivery::Refused { number, record } => pack(1, record, number, 0),
+        Delivery::Done { stored, held } => answered(stored, held, 0),
+        Delivery::Refused { number, record } => refused(number, record),
     }
 }
 
 // The number of records of an entry's body, and its first body line.
 #[no_mangle]
-pub extern "C" fn crownhazel_entry(journal: &[u8], entry: u64) -> u64 {
+pub extern "C" fn crownhazel_entry(journal: &[u8], entry: u64) -> u64
+    ensures { λ r. ⌜ EntryNumber (now (journal .entry)) entry r ⌝ }
+{
     match journal_layout::entry_place(journal, entry) {
         Place::At { first, len } => {
-            let records = len / 120;
-            if first < 7680 {
-                return pack(0, records as u64, 0, 0);
-            }
-            let line = (first - 7680) / 120;
-            pack(0, records as u64, line as u64, 0)
+            answered((len / 120) as u64, ((first - 7680) / 120) as u64, 0)
         }
-        Place::Refused { number, record } => pack(1, record, number, 0),
+        Place::Refused { number, record } => refused(number, record),
     }
 }

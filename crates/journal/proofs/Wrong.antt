@@ -19,7 +19,7 @@ use Rattle.journal.specs.Arrivals.{arrivals}
 use Rattle.journal.specs.Series.{Event, deliver, Deliver, after, accepted, heldAfter, Demand3}
 
 module _ {O : List ℕ → List ℕ} {D : Deliver} (d : Demand3 O D) (j : List ℕ) (right : isLength (length j) ≡ true) (f : Form) (b : List ℕ)
-         {x y : ℕ} (done : D (O j) f b .answer ≡ Done x y) where
+    {x y : ℕ} (done : D (O j) f b .answer ≡ Done x y) where
   -- what must be held after this one file
   must-hold : Journal (D (O j) f b .journal) (arrivals [] (statementsOf july f b))
   unfolding after accepted

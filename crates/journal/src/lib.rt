@@ -31,9 +31,19 @@ pub enum Delivery {
 
 // Where the newest statement of an account stands: in the journal, without line ends, or in the file, with its line-end number.
 pub enum Found {
-    InJournal { first: usize, len: usize },
-    InFile { first: usize, len: usize, line_end: u64 },
-    Refused { number: u64, record: u64 },
+    InJournal {
+        first: usize,
+        len: usize,
+    },
+    InFile {
+        first: usize,
+        len: usize,
+        line_end: u64,
+    },
+    Refused {
+        number: u64,
+        record: u64,
+    },
 }
 
 // The statements of a file that a delivery stores: where each begins and ends, and into which entry and from which line on. With its answer.
@@ -318,14 +328,27 @@ fn last_planned(file: &[u8], places: &[u32], ends: &[u32], count: usize, key: &[
     while p < count {
         let a = places[p] as usize;
         let z = ends[p] as usize;
-        last = chosen(is_account(key, contents::record_at(&file[a..z], 0)), p + 1, last);
+        last = chosen(
+            is_account(key, contents::record_at(&file[a..z], 0)),
+            p + 1,
+            last,
+        );
         p += 1;
     }
     last
 }
 
 // The newest among planned and held statements.
-fn newest_planned(journal: &[u8], form: Form, file: &[u8], places: &[u32], ends: &[u32], count: usize, held: usize, key: &[u8]) -> Found
+fn newest_planned(
+    journal: &[u8],
+    form: Form,
+    file: &[u8],
+    places: &[u32],
+    ends: &[u32],
+    count: usize,
+    held: usize,
+    key: &[u8],
+) -> Found
     requires { ⌜ Searchable (now journal) form (now file) (now places) (now ends) count held ⌝ }
     ensures { λ r. ⌜ Finds (pick (eqb (length (now (key .entry))) keySize) (newestAmong form (keyFrom (now (key .entry))) (heldOf (now (journal .entry))) (statementsOf july form (now (file .entry)))) (Refused 25 0)) (now (journal .entry)) (now (file .entry)) r ⌝ }
 {
@@ -369,7 +392,16 @@ fn find_newest(journal: &[u8], form: Form, file: &[u8], key: &[u8]) -> Found
     let answer = plan.answer;
     match answer {
         Delivery::Done { stored: _, held: _ } => {
-            newest_planned(journal, form, file, &places, &ends, plan.count, plan.entry, key)
+            newest_planned(
+                journal,
+                form,
+                file,
+                &places,
+                &ends,
+                plan.count,
+                plan.entry,
+                key,
+            )
         }
         Delivery::Refused { number, record } => Found::Refused { number, record },
     }

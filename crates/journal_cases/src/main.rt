@@ -4,6 +4,7 @@ ghost use Prim.Native.Nat.{_<_, _≤_};
 ghost use lib.ListN.{length};
 use framing::Form;
 use journal::Delivery;
+use journal::Found;
 use journal_layout::Opening;
 use libc::STDOUT_FILENO;
 use readers::Place;
@@ -127,6 +128,48 @@ fn deliver(journal: &mut [u8], form: Form, file: &[u8]) {
     end_line();
 }
 
+// A payload too short for a key of 25 bytes is all key.
+fn key_size(payload: &[u8]) -> usize
+    ensures { λ r. ⌜ r ≤ length (now (payload .entry)) ⌝ }
+{
+    if payload.len() < 25 {
+        payload.len()
+    } else {
+        25
+    }
+}
+
+// Where the newest statement of an account stands. Bodies have no line ends, so their line-end number is 0.
+fn newest(journal: &[u8], form: Form, file: &[u8], key: &[u8]) {
+    word(b"N");
+    match journal::newest_place(journal, form, file, key) {
+        Found::InJournal { first, len } => {
+            word(b" journal");
+            number(first as u64);
+            number(len as u64);
+            number(0);
+        }
+        Found::InFile {
+            first,
+            len,
+            line_end,
+        } => {
+            word(b" file");
+            number(first as u64);
+            number(len as u64);
+            number(line_end);
+        }
+        Found::Refused { number: n, record } => refused(n, record),
+    }
+    end_line();
+}
+
+// The account's key leads the payload, and the file follows it.
+fn ask(journal: &[u8], form: Form, payload: &[u8]) {
+    let size = key_size(payload);
+    newest(journal, form, &payload[size..], &payload[0..size]);
+}
+
 // The operation of a letter. Whether there is one.
 fn perform(journal: &mut [u8], letter: u8, a: u64, b: u64, payload: &[u8]) -> bool {
     match letter {
@@ -136,6 +179,7 @@ fn perform(journal: &mut [u8], letter: u8, a: u64, b: u64, payload: &[u8]) -> bo
         b'E' => entry(journal, a),
         b'P' => return poke(journal, a, b),
         b'D' => deliver(journal, Form { line_end: a }, payload),
+        b'N' => ask(journal, Form { line_end: a }, payload),
         _ => return false,
     }
     true
@@ -151,9 +195,12 @@ fn is_header(h: &[u8]) -> bool
         & (h[30] == b'\n')
 }
 
-// Only a delivery has a payload.
+// Only a delivery and the question for the newest statement have a payload.
 fn payload_size(letter: u8, b: u64) -> usize {
-    if letter == b'D' { b as usize } else { 0 }
+    match letter {
+        b'D' | b'N' => b as usize,
+        _ => 0,
+    }
 }
 
 // What is no operation has no letter, and takes all up to the end of the series.

@@ -1,0 +1,219 @@
+-- The numbers of every answer keep their bounds, for any journal, line-end number and file.
+use mathlib.Core.Path.{_≡_, refl}
+use mathlib.Core.Bool.{Bool, true, false, _&&_, _||_, false≢true}
+use mathlib.Core.List.{List, [], _∷_, _++_, map}
+use Prim.Native.Nat.{ℕ, _+_, _-_, _<_, _≤_}
+use native.Mathlib.Omega.{arith}
+use lib.Dec.{eqb, leb, ltb}
+use lib.ListN.{length, take, getD, length-append}
+use borrow.Author.Tests.{eqb-true, ltb-true, ltb-false}
+use Rattle.zones.specs.Choice.{pick}
+use Rattle.zones.proofs.Bools.{and-left, and-right}
+use Rattle.framing.specs.declared.Form.{Form}
+use Rattle.framing.specs.Files.{widthOf, countOf}
+use Rattle.framing.proofs.Cuts.{length-chunks}
+use Rattle.grammar.specs.Answer as G
+use Rattle.grammar.specs.Answer.{Rule, ruled, Counts, Answer, first, cut, whole}
+use Rattle.grammar.specs.Record.{Rec, opening, movement, complement, closing}
+use Rattle.grammar.specs.Since.{sinceOpening, tally}
+use Rattle.grammar.specs.Statements.{Statement, recordsOf, allRecords, countsOf}
+use Rattle.grammar.specs.Files.{recOf, pieces, checkOf, statementsOf, rulesAfter, appliesIn, Ruled, line, multiple, many, records}
+use Rattle.grammar.specs.Parts.{sizeOf, recordsBefore, nothing}
+use Rattle.grammar.proofs.Parts.{length-one}
+use Rattle.records.specs.July.{recordSize, mostInFile, july, july2004}
+use Rattle.records.proofs.Theorems as T
+use Rattle.statements.specs.Answers.{checkedOf}
+use Rattle.readers.specs.declared.Place.{Place}
+use Rattle.readers.specs.declared.Place.the-variants as P
+use Rattle.bodies.proofs.Single.{size-most}
+use Rattle.entries.specs.Entries.{mostEntries}
+use Rattle.journal_layout.specs.declared.Opening.the-variants as O
+use Rattle.journal_layout.specs.Chains.{judgementOf, followsBy}
+use Rattle.journal_layout.specs.Layout.{isLength, linesOf}
+use Rattle.journal_layout.specs.Test.{soundIn, heldOf, entryPlaceOf}
+use Rattle.journal_layout.proofs.Holding.{before-lines, there-alone}
+use Rattle.journal_layout.proofs.Exact.{journal-held, sound-journal}
+use Rattle.journal_layout.proofs.Places.{stood}
+use Rattle.journal.specs.Delivery.{hold, store, refuse, isHeld, verdictOf, Outcome, refused, proceed, run, linesIn, outcomeOf}
+use Rattle.journal.specs.Answers.{answerOf}
+use Rattle.collector.specs.Bounds.{lastRefusal, Refusal, Body, CheckBounds, OpeningBounds, DeliveryBounds, EntryBounds}
+use Rattle.collector.specs.Answers.{openAnswer}
+
+-- ---- the check
+
+-- numbers of the list of refusals
+abbrev Listed : List Rule → Type 0
+Listed [] = Unit
+Listed (x ∷ xs) = ((1 ≤ x .number) × (x .number ≤ lastRefusal)) × Listed xs
+
+listed : (k : ℕ) (xs : List Rule) → Listed xs → ruled k xs ≡ true → (1 ≤ k) × (k ≤ lastRefusal)
+listed k [] l h = absurd (false≢true h)
+listed k (x ∷ xs) l h = by (x .applies) (eqb (x .number) k) refl h (listed k xs (l .1))
+  where
+    by : (t u : Bool) → eqb (x .number) k ≡ u → (t && u || ruled k xs) ≡ true → (ruled k xs ≡ true → (1 ≤ k) × (k ≤ lastRefusal)) → (1 ≤ k) × (k ≤ lastRefusal)
+    by true true e g ih = let z = eqb-true (x .number) k e in (omega arith, omega arith)
+    by true false e g ih = ih g
+    by false u e g ih = ih g
+
+-- each record counts once at most
+tally-most : (rs : List Rec) → tally rs .statements + tally rs .movements + tally rs .complements ≤ length rs
+unfolding tally
+tally-most [] = omega arith
+tally-most (opening k d b ∷ rs) = let h = tally-most rs in omega arith
+tally-most (movement k p ∷ rs) = let h = tally-most rs in omega arith
+tally-most (complement e t ∷ rs) = let h = tally-most rs in omega arith
+tally-most (closing k d b ∷ rs) = let h = tally-most rs in omega arith
+
+length-map : {A B : Type 0} (f : A → B) (xs : List A) → length (map f xs) ≡ length xs
+length-map f [] = refl
+length-map f (x ∷ xs) = let h = length-map f xs in omega arith
+
+module _ (f : Form) (b : List ℕ) where
+  count-pieces : length (pieces july f b) ≡ countOf recordSize f b
+  count-pieces = length-chunks (widthOf recordSize f) (countOf recordSize f b) b
+
+  bounded : {a : Answer} → Ruled july f b a → CheckBounds (checkedOf a)
+  unfolding appliesIn
+  bounded (line p e) = rw e (record { some = omega arith; listed = omega arith; near = omega arith })
+  bounded (multiple p q e) = rw e (record { some = omega arith; listed = omega arith; near = omega arith })
+  bounded (many p q r e) = rw e (record { some = omega arith; listed = omega arith; near = omega arith })
+  bounded (records p q r (first k i h e)) =
+      let ps = pieces july f b in
+      let few = ltb-false mostInFile (countOf recordSize f b) r in
+      let rules = rulesAfter july f (sinceOpening (map (recOf july) (take i ps))) (getD ps i []) in
+      let within = ltb-true i (length ps) (and-left (ltb i (length ps)) (ruled k rules) (h .here)) in
+      let z = listed k rules (omega arith) (and-right (ltb i (length ps)) (ruled k rules) (h .here)) in
+      rw e (record { some = z .0; listed = z .1; near = omega (arith, count-pieces) })
+  bounded (records p q r (cut n i e)) =
+      let few = ltb-false mostInFile (countOf recordSize f b) r in
+      rw e (record { some = omega arith; listed = omega arith; near = omega arith })
+  bounded (records p q r (whole n i e)) =
+      let few = ltb-false mostInFile (countOf recordSize f b) r in
+      let rs = map (recOf july) (pieces july f b) in
+      let m = tally-most rs in
+      let l = length-map (recOf july) (pieces july f b) in
+      rw e
+      (record {
+        few-statements = omega (arith, count-pieces);
+        few-movements = omega (arith, count-pieces);
+        few-complements = omega (arith, count-pieces);
+      })
+
+  pub check-bounds : CheckBounds (checkedOf (checkOf july f b))
+  check-bounds = bounded (T.ruled f b)
+
+-- ---- opening
+
+pub opening-bounds : (j : List ℕ) → OpeningBounds (openAnswer j)
+opening-bounds j = by (isLength (length j))
+  where
+    by : (t : Bool) → OpeningBounds (pick t O.Opened (O.Refused 21 0))
+    by true = tt
+    by false = record { some = omega arith; listed = omega arith; near = omega arith }
+
+-- ---- the delivery
+
+-- what is left of a file: its statements and records, with those behind, are no more than a file may have
+record Left (hs : List Statement) (behind stored held : ℕ) (ss : List Statement) : Type 0 where
+  pub entries : length hs ≤ mostEntries
+  pub stores : stored ≤ length hs
+  pub statements : held + length ss ≤ mostInFile
+  pub rows : behind + length (allRecords july2004 ss) ≤ mostInFile
+
+size-first : (s : Statement) (ss : List Statement) → length (allRecords july2004 (s ∷ ss)) ≡ sizeOf s + length (allRecords july2004 ss)
+unfolding allRecords
+size-first s ss = omega (arith, length-append (recordsOf july2004 s) (allRecords july2004 ss), length-one july2004 s)
+
+run-bounds : (n : ℕ) (hs : List Statement) (behind stored held : ℕ) (ss : List Statement) → Left hs behind stored held ss
+    → DeliveryBounds (answerOf (run n hs behind stored held ss))
+unfolding run verdictOf
+run-bounds n hs behind stored held [] l =
+    let e = l .entries in
+    let a = l .stores in
+    let h = l .statements in
+    record { few-stored = omega arith; few-held = omega arith }
+run-bounds n hs behind stored held (s ∷ ss) l =
+    let e = l .entries in
+    let a = l .stores in
+    let h = l .statements in
+    let r = l .rows in
+    let z = size-first s ss in
+    by (run n hs (behind + sizeOf s) stored (held + 1) ss) (run n (hs ++ (s ∷ [])) (behind + sizeOf s) (stored + 1) held ss)
+    (isHeld (judgementOf s hs)) (followsBy (judgementOf s hs) (s .old-date) (s .old-balance)) (ltb (length hs) mostEntries)
+    (leb (sizeOf s) (n - linesOf hs)) refl
+    (run-bounds n hs (behind + sizeOf s) stored (held + 1) ss
+    (record { entries = omega arith; stores = omega arith; statements = omega arith; rows = omega arith }))
+    (λ room.
+    let y = length-append hs (s ∷ []) in
+    run-bounds n (hs ++ (s ∷ [])) (behind + sizeOf s) (stored + 1) held ss
+    (record { entries = omega arith; stores = omega arith; statements = omega arith; rows = omega arith }))
+    (omega arith)
+  where
+    by : (H S : Outcome) (t u v w : Bool) → ltb (length hs) mostEntries ≡ v → DeliveryBounds (answerOf H) → (length hs < mostEntries → DeliveryBounds (answerOf S))
+        → behind + 1 ≤ mostInFile
+        → DeliveryBounds
+        (answerOf
+        (proceed (pick t hold (pick u (pick v (pick w store (refuse 24)) (refuse 23)) (refuse 22))) H S (λ k. refused k (behind + 1))))
+    by H S true u v w e h s r = h
+    by H S false true true true e h s r = s (ltb-true (length hs) mostEntries e)
+    by H S false true true false e h s r = record { some = omega arith; listed = omega arith; near = r }
+    by H S false true false w e h s r = record { some = omega arith; listed = omega arith; near = r }
+    by H S false false v w e h s r = record { some = omega arith; listed = omega arith; near = r }
+
+-- an accepted file has no more statements than records
+statements-few : (f : Form) (b : List ℕ) {c : Counts} → checkOf july f b ≡ G.accepted c → length (statementsOf july f b) ≤ mostInFile
+statements-few f b e =
+    let z : CheckBounds (checkedOf (G.accepted (countsOf (statementsOf july f b)))) = rw (T.counts (T.reads f b e)) at (check-bounds f b) in
+    z .few-statements
+
+pub delivery-bounds : (j : List ℕ) (f : Form) (b : List ℕ) → DeliveryBounds (answerOf (outcomeOf j f b))
+unfolding outcomeOf
+delivery-bounds j f b = by (soundIn j) refl (checkOf july f b) refl
+  where
+    by : (t : Bool) → soundIn j ≡ t → (a : Answer) → checkOf july f b ≡ a → DeliveryBounds (answerOf (outcomeOf j f b))
+    by false p a q = rw p (record { some = omega arith; listed = omega arith; near = omega arith })
+    by true p (G.refused n r) q = let z : Refusal n r = rw q at (check-bounds f b) in rw (p, q) z
+    by true p (G.accepted c) q =
+        let g = sound-journal j p in
+        let few = g .kept .few in
+        let s = statements-few f b q in
+        let r = T.reads f b q .few in
+        rw (p, q)
+        (run-bounds (linesIn j) (heldOf j) 0 0 0 (statementsOf july f b)
+        (record { entries = few; stores = omega arith; statements = omega arith; rows = omega arith }))
+
+-- ---- an entry
+
+module _ (j : List ℕ) (e : ℕ) where
+  found : {x n : ℕ} → P.At x n ≡ entryPlaceOf j e → Body x n
+  found p =
+      let s = stood j e p in
+      let g = sound-journal j (s .sound) in
+      let ss = heldOf j in
+      let behind = before-lines (e - 1) ss (s .index) in
+      let room = g .kept .room in
+      let most = g .most in
+      record {
+        line = recordsBefore (e - 1) ss;
+        records = sizeOf (getD ss (e - 1) nothing);
+        begins = s .first;
+        runs = s .len;
+        low = omega arith;
+        few = size-most (there-alone (journal-held g .holding) (e - 1) (s .index));
+      }
+
+  not-found : {n r : ℕ} → P.Refused n r ≡ entryPlaceOf j e → Refusal n r
+  unfolding entryPlaceOf
+  not-found {n} {r} p = by _ _ (soundIn j) (eqb e 0 || ltb (length (heldOf j)) e) p
+    where
+      by : (x m : ℕ) (t u : Bool) → P.Refused n r ≡ pick t (pick u (P.Refused 25 0) (P.At x m)) (P.Refused 21 0) → Refusal n r
+      by x m false u q = let a : n ≡ 21 = cc in let b : r ≡ 0 = cc in record { some = omega arith; listed = omega arith; near = omega arith }
+      by x m true true q = let a : n ≡ 25 = cc in let b : r ≡ 0 = cc in record { some = omega arith; listed = omega arith; near = omega arith }
+      by x m true false q = absurd (let z : _≡_ {A = ℕ} 0 1 = cc in omega arith)
+
+  pub entry-bounds : EntryBounds (entryPlaceOf j e)
+  entry-bounds = by (entryPlaceOf j e) refl
+    where
+      by : (r : Place) → r ≡ entryPlaceOf j e → EntryBounds r
+      by (P.At x n) p = found p
+      by (P.Refused n r) p = not-found p

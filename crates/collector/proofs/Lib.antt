@@ -1,0 +1,4 @@
+pub mod Bounds
+pub mod Packing
+pub mod Calls
+pub mod One

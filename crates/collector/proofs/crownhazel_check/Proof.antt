@@ -1,0 +1,40 @@
+use mathlib.Core.Path.{sym, ap, _∙_}
+use Rattle.collector.specs.Packing.{packedCheck}
+use Rattle.collector.proofs.Packing.{counted-fits, refusal-fits}
+use Rattle.collector.proofs.Calls.{checked}
+use borrow.Author.Needs.{needs}
+use Rattle.collector.proofs.crownhazel_check.Statement.{statement}
+use Rattle.collector.proofs.crownhazel_check.Tie as tie
+
+check-requires : tie.Need-check-requires
+check-requires c κs = search needs
+
+enum-known-statements : tie.Need-enum-known-statements
+enum-known-statements c = search needs
+
+answered-requires : tie.Need-answered-requires
+answered-requires c κs = counted-fits (checked (c .before .before .before .before .before .args .line-end) (c .before .before .before .before .before .args .file .now) (sym (c .before .statements .given .1) ∙ c .before .before .before .check .ensures .answer))
+
+enum-known-number : tie.Need-enum-known-number
+enum-known-number c = search needs
+
+refused-requires : tie.Need-refused-requires
+refused-requires c κs = refusal-fits (checked (c .before .before .before .before .before .args .line-end) (c .before .before .before .before .before .args .file .now) (sym (c .before .number .given .1) ∙ c .before .before .before .check .ensures .answer))
+
+returns : tie.Need-returns
+returns c = record { answer = c .answered .ensures ∙ ap packedCheck (sym (c .before .before .statements .given .1) ∙ c .before .before .before .before .check .ensures .answer) }
+
+returns-2 : tie.Need-returns-2
+returns-2 c = record { answer = c .refused .ensures ∙ ap packedCheck (sym (c .before .before .number .given .1) ∙ c .before .before .before .before .check .ensures .answer) }
+
+pub crownhazel-check-spec : {M : Type 1} → statement M
+crownhazel-check-spec =
+    tie.close
+    (tie.spec
+    check-requires
+    enum-known-statements
+    answered-requires
+    enum-known-number
+    refused-requires
+    returns
+    returns-2)

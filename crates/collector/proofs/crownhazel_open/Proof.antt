@@ -1,0 +1,48 @@
+use mathlib.Core.Path.{sym, ap, _∙_}
+use Rattle.collector.specs.Packing.{packedOpening}
+use Rattle.collector.proofs.Packing.{refusal-fits}
+use Rattle.collector.proofs.Calls.{opened}
+use borrow.Author.Needs.{needs}
+use Rattle.collector.proofs.crownhazel_open.Statement.{statement}
+use Rattle.collector.proofs.crownhazel_open.Tie as tie
+
+open-requires : tie.Need-open-requires
+open-requires c κs = search needs
+
+enum-told : tie.Need-enum-told
+enum-told c = search needs
+
+answered-requires : tie.Need-answered-requires
+answered-requires c κs = search needs
+
+enum-known-number : tie.Need-enum-known-number
+enum-known-number c = search needs
+
+refused-requires : tie.Need-refused-requires
+refused-requires c κs = refusal-fits (opened (c .before .before .before .before .before .before .before .before .args .journal .now) (sym (c .before .number .given .1) ∙ c .before .before .before .before .before .«open» .ensures .answer))
+
+same-length : tie.Need-same-length
+same-length c = search needs
+
+returns : tie.Need-returns
+returns c = record { answer = c .answered .ensures ∙ ap packedOpening (sym (c .before .enum-told .given .1) ∙ c .before .before .before .before .before .«open» .ensures .answer); content = c .before .before .before .before .before .«open» .ensures .content }
+
+same-length-2 : tie.Need-same-length-2
+same-length-2 c = search needs
+
+returns-2 : tie.Need-returns-2
+returns-2 c = record { answer = c .refused .ensures ∙ ap packedOpening (sym (c .before .before .number .given .1) ∙ c .before .before .before .before .before .before .«open» .ensures .answer); content = c .before .before .before .before .before .before .«open» .ensures .content }
+
+pub crownhazel-open-spec : {M : Type 1} → statement M
+crownhazel-open-spec =
+    tie.close
+    (tie.spec
+    open-requires
+    enum-told
+    answered-requires
+    enum-known-number
+    refused-requires
+    same-length
+    returns
+    same-length-2
+    returns-2)
