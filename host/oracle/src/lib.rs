@@ -8,11 +8,13 @@
 pub mod check;
 pub mod damage;
 pub mod delivery;
+pub mod hostile;
 pub mod journal;
 pub mod listing;
 pub mod listing_cases;
 pub mod read;
 pub mod record;
+pub mod replay;
 pub mod rng;
 pub mod series;
 pub mod series_cases;

@@ -9,6 +9,7 @@ use oracle::check::check;
 use oracle::listing::listing;
 use oracle::listing_cases::listings;
 use oracle::read::{complement, head, movement, place};
+use oracle::replay::{replay_checks, replay_series};
 use oracle::series;
 use oracle::series_cases::{big_series, kept_series};
 use oracle::show::{complement_line, head_line, line, place_line, readings, row_line};
@@ -33,6 +34,10 @@ const USAGE: &str = "usage:
       names, bytes and kinds on standard error
   oracle series-big DIR
       the same with the large series
+  oracle replay-checks SEED COUNT OUT
+      fixed checks and COUNT generated ones with their answers, in one binary file
+  oracle replay-series SEED COUNT OUT
+      the same with series
   oracle time FILE LINE_END TIMES";
 
 fn main() -> ExitCode {
@@ -65,6 +70,14 @@ fn run(arguments: &[&str]) -> io::Result<()> {
         ["listing"] => print_listing(),
         ["time", file, line_end, times] => {
             print_lines(&[time(file, number(line_end)?, number(times)?)?])
+        }
+        ["replay-checks", seed, count, out] => {
+            let line = replay_checks(number(seed)?, number(count)?, Path::new(out))?;
+            print_lines(&[line])
+        }
+        ["replay-series", seed, count, out] => {
+            let line = replay_series(number(seed)?, number(count)?, Path::new(out))?;
+            print_lines(&[line])
         }
         ["series", ..] | ["series-kept", ..] | ["series-big", ..] => run_series(arguments),
         _ => run_reader(arguments),

@@ -68,8 +68,13 @@ pub fn valid_case(rng: &mut Rng) -> Case {
     case("valid", &draft, Claim::Accepted)
 }
 
-/// A damaged file. A recipe may have no place in a file; another file is tried then.
+/// A damaged file, small but for one in a hundred.
 pub fn damaged_case(rng: &mut Rng, list: &[Recipe]) -> Case {
+    damaged_from(rng, list, base)
+}
+
+/// A file of that kind, damaged. A recipe may have no place in a file; another file is tried then.
+pub fn damaged_from(rng: &mut Rng, list: &[Recipe], base: fn(&mut Rng) -> Draft) -> Case {
     let recipe = pick(rng, list);
     loop {
         let draft = base(rng);

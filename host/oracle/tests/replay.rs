@@ -1,0 +1,307 @@
+//! The files for the replay, read back by this test's own code.
+
+use std::collections::BTreeSet;
+use std::path::PathBuf;
+use std::process::Command;
+
+use oracle::check::{check, Answer};
+use oracle::damage::Case;
+use oracle::delivery::deliver;
+use oracle::journal::{entry, open};
+use oracle::read::Refusal;
+use oracle::replay::{fnv, replay_checks, replay_series, Cases, Series, CHECKS, SERIES};
+use oracle::rng::Rng;
+use oracle::series::{operations, Operation};
+use oracle::series_cases::{series_case, KINDS};
+
+const TABLE: usize = 7_680;
+
+/// Kind, refusal, record and three values.
+type Numbers = [u64; 6];
+
+/// What is left of a file.
+struct Reader<'a>(&'a [u8]);
+
+impl<'a> Reader<'a> {
+    fn take(&mut self, length: usize) -> &'a [u8] {
+        let (taken, rest) = self.0.split_at(length);
+        self.0 = rest;
+        taken
+    }
+
+    /// A number, low byte first.
+    fn number(&mut self, width: usize) -> u64 {
+        let bytes = self.take(width).iter().rev();
+        bytes.fold(0, |number, &byte| number << 8 | u64::from(byte))
+    }
+
+    fn bytes(&mut self) -> &'a [u8] {
+        let length = self.number(4) as usize;
+        self.take(length)
+    }
+
+    fn answer(&mut self) -> Numbers {
+        [1, 4, 4, 4, 4, 4].map(|width| self.number(width))
+    }
+
+    /// The number of cases, after the mark and the seed.
+    fn head(&mut self, mark: &[u8], seed: u64) -> u64 {
+        assert_eq!(self.take(8), mark);
+        assert_eq!(self.number(8), seed);
+        self.number(8)
+    }
+}
+
+fn path(name: &str) -> PathBuf {
+    PathBuf::from(env!("CARGO_TARGET_TMPDIR")).join(name)
+}
+
+fn refused(refusal: Refusal) -> Numbers {
+    [1, u64::from(refusal.number), refusal.record, 0, 0, 0]
+}
+
+fn checked(line_end: u64, file: &[u8]) -> Numbers {
+    match check(line_end, file) {
+        Answer::Accepted {
+            statements,
+            movements,
+            complements,
+        } => [0, 0, 0, statements, movements, complements],
+        Answer::Refused { number, record } => refused(Refusal { number, record }),
+    }
+}
+
+#[test]
+fn a_check_by_hand_is_read_back() {
+    let path = path("by-hand.checks");
+    let mut cases = Cases::create(&path, CHECKS, 9, 2).unwrap();
+    for (name, line_end, bytes) in [("empty", 2, &b""[..]), ("far-out", u64::MAX, b"0\xFF")] {
+        let case = Case {
+            name: name.to_string(),
+            line_end,
+            bytes: bytes.to_vec(),
+            expected: None,
+        };
+        cases.check(&case).unwrap();
+    }
+    let tally = cases.finish().unwrap();
+    assert_eq!(tally.0.into_iter().collect::<Vec<_>>(), [(0, 1), (1, 1)]);
+    let expected = [
+        &b"CHCHECKS\x09\0\0\0\0\0\0\0\x02\0\0\0\0\0\0\0"[..],
+        b"\x05\0\0\0empty\x02\0\0\0\0\0\0\0\0\0\0\0",
+        b"\0\0\0\0\0\0\0\0\0\0\0\0\0\0\0\0\0\0\0\0\0",
+        b"\x07\0\0\0far-out\xFF\xFF\xFF\xFF\xFF\xFF\xFF\xFF\x02\0\0\x000\xFF",
+        b"\x01\x01\0\0\0\0\0\0\0\0\0\0\0\0\0\0\0\0\0\0\0",
+    ];
+    assert!(std::fs::read(&path).unwrap() == expected.concat());
+}
+
+#[test]
+fn hostile_checks_get_the_answer_they_expect() {
+    for case in oracle::hostile::checks(&mut Rng::new(7)) {
+        let answer = check(case.line_end, &case.bytes);
+        assert_eq!(case.expected.unwrap_or(answer), answer, "{}", case.name);
+    }
+}
+
+/// Every refusal of the check occurs, and the answers are the check's.
+#[test]
+fn checks_are_read_back() {
+    let path = path("generated.checks");
+    let line = replay_checks(3, 2_000, &path).unwrap();
+    assert!(line.starts_with("checks: seed 3, 1556 fixed, 2000 generated: answered "));
+    let file = std::fs::read(&path).unwrap();
+    let mut reader = Reader(&file);
+    let mut refusals = BTreeSet::new();
+    for _ in 0..reader.head(CHECKS, 3) {
+        assert!(!reader.bytes().is_empty());
+        let (line_end, file) = (reader.number(8), reader.bytes());
+        let answer = reader.answer();
+        assert_eq!(answer, checked(line_end, file));
+        refusals.insert(answer[1]);
+    }
+    assert!(reader.0.is_empty());
+    assert_eq!(refusals, (0..=15).collect());
+}
+
+/// A journal of two lines: pokes that touch are one, the sound test and the newest are left out.
+#[test]
+fn a_series_by_hand_is_read_back() {
+    let path = path("by-hand.series");
+    let mut series = Series::new("hand");
+    let length = TABLE + 240;
+    series.perform(Operation::Journal { length });
+    series.poke(7, b"ab");
+    series.perform(Operation::Poke {
+        offset: 9,
+        byte: b'c',
+    });
+    series.perform(Operation::Sound);
+    series.perform(Operation::Poke {
+        offset: u64::MAX,
+        byte: 0,
+    });
+    series.perform(Operation::Entry { number: 1 });
+    series.perform(Operation::Open);
+    series.perform(Operation::Newest {
+        line_end: 1,
+        key: b"",
+        file: b"",
+    });
+    let file = b"x";
+    series.perform(Operation::Deliver { line_end: 2, file });
+    let mut cases = Cases::create(&path, SERIES, 10, 1).unwrap();
+    cases.series(&series.end()).unwrap();
+    cases.finish().unwrap();
+    let mut dots = vec![b'.'; length];
+    dots[7..10].copy_from_slice(b"abc");
+    let expected = [
+        &b"CHSERIES\x0A\0\0\0\0\0\0\0\x01\0\0\0\0\0\0\0"[..],
+        b"\x04\0\0\0hand\x06\0\0\0",
+        b"J\xF0\x1E\0\0\0\0\0\0",
+        b"P\x07\0\0\0\0\0\0\0\x03\0\0\0abc",
+        b"P\xFF\xFF\xFF\xFF\xFF\xFF\xFF\xFF\x01\0\0\0\0",
+        b"E\x01\0\0\0\0\0\0\0",
+        b"\x01\x15\0\0\0\0\0\0\0\0\0\0\0\0\0\0\0\0\0\0\0",
+        &fnv(&dots).to_le_bytes(),
+        b"O\0\0\0\0\0\0\0\0\0\0\0\0\0\0\0\0\0\0\0\0\0",
+        &fnv(&vec![b' '; length]).to_le_bytes(),
+        b"D\x02\0\0\0\0\0\0\0\x01\0\0\0x",
+        b"\x01\x02\0\0\0\0\0\0\0\0\0\0\0\0\0\0\0\0\0\0\0",
+        &fnv(&vec![b' '; length]).to_le_bytes(),
+    ];
+    assert!(std::fs::read(&path).unwrap() == expected.concat());
+}
+
+/// An operation as it was put in: letter, number, bytes.
+type Put = (u8, u64, Vec<u8>);
+
+/// Reads a series and runs it: the answers and the journals are the same.
+fn rerun(reader: &mut Reader, refusals: &mut BTreeSet<u64>) -> Vec<Put> {
+    let mut journal: Vec<u8> = Vec::new();
+    let mut put = Vec::new();
+    for _ in 0..reader.number(4) {
+        let letter = reader.number(1) as u8;
+        let a = if letter == b'O' { 0 } else { reader.number(8) };
+        let bytes = match letter {
+            b'P' | b'D' => reader.bytes(),
+            _ => b"",
+        };
+        if let Some(answer) = rerun_one(&mut journal, letter, a, bytes) {
+            assert_eq!(reader.answer(), answer);
+            assert_eq!(reader.number(8), fnv(&journal));
+            refusals.insert(answer[1]);
+        }
+        match letter {
+            b'P' => put.extend((a..).zip(bytes).map(|(a, &byte)| (b'P', a, vec![byte]))),
+            _ => put.push((letter, a, bytes.to_vec())),
+        }
+    }
+    put
+}
+
+/// The answer of an operation that has one.
+fn rerun_one(journal: &mut Vec<u8>, letter: u8, a: u64, bytes: &[u8]) -> Option<Numbers> {
+    let answer = match letter {
+        b'J' => {
+            *journal = vec![b'.'; a as usize];
+            return None;
+        }
+        b'P' => {
+            let places = journal.iter_mut().skip(a as usize);
+            places.zip(bytes).for_each(|(place, &byte)| *place = byte);
+            return None;
+        }
+        b'O' => open(journal).map(|()| [0; 6]),
+        b'E' => entry(journal, a).map(|place| {
+            let line = (place.first - TABLE) / 120;
+            [0, 0, 0, place.length as u64 / 120, line as u64, 0]
+        }),
+        b'D' => deliver(journal, a, bytes).map(|done| [0, 0, 0, done.stored, done.held, 0]),
+        _ => panic!("unknown letter {letter}"),
+    };
+    Some(answer.unwrap_or_else(refused))
+}
+
+/// The exported operations of a series in its text form.
+fn exported(text: &[u8]) -> Vec<Put> {
+    let put = |operation: Operation| match operation {
+        Operation::Journal { length } => Some((b'J', length as u64, Vec::new())),
+        Operation::Open => Some((b'O', 0, Vec::new())),
+        Operation::Entry { number } => Some((b'E', number, Vec::new())),
+        Operation::Poke { offset, byte } => Some((b'P', offset, vec![byte])),
+        Operation::Deliver { line_end, file } => Some((b'D', line_end, file.to_vec())),
+        Operation::Sound | Operation::Newest { .. } => None,
+    };
+    operations(text)
+        .unwrap()
+        .into_iter()
+        .filter_map(put)
+        .collect()
+}
+
+/// Each kind once: what was put in comes out. Every refusal of a journal occurs, and the lengths,
+/// line ends and entries that a hostile caller may try are there.
+#[test]
+fn series_are_read_back() {
+    let path = path("generated.series");
+    let generated = KINDS.len() as u64;
+    replay_series(4, generated, &path).unwrap();
+    let file = std::fs::read(&path).unwrap();
+    let mut reader = Reader(&file);
+    let cases = reader.head(SERIES, 4);
+    let mut refusals = BTreeSet::new();
+    let mut tried = BTreeSet::new();
+    for number in 0..cases {
+        let name = reader.bytes();
+        let put = rerun(&mut reader, &mut refusals);
+        tried.extend(put.iter().map(|&(letter, a, _)| (letter, a)));
+        if let Some(index) = (number + generated).checked_sub(cases) {
+            let case = series_case(4, index as usize);
+            assert_eq!(name, case.name.as_bytes());
+            assert!(put == exported(&case.bytes), "{}", case.name);
+        }
+    }
+    assert!(reader.0.is_empty());
+    assert_eq!(refusals, (0..=15).chain(21..=25).collect());
+    for length in [0, 1, 7_560, 7_679, 7_680, 7_681, 12_007_680, 12_007_800] {
+        assert!(tried.contains(&(b'J', length)), "{length}");
+    }
+    for number in [3, 255, 256, 1 << 32, 1 << 63, u64::MAX] {
+        assert!(tried.contains(&(b'D', number)), "{number}");
+        assert!(tried.contains(&(b'E', number)), "{number}");
+    }
+}
+
+/// The published values of this hash.
+#[test]
+fn known_hashes() {
+    assert_eq!(fnv(b""), 0xCBF2_9CE4_8422_2325);
+    assert_eq!(fnv(b"a"), 0xAF63_DC4C_8601_EC8C);
+    assert_eq!(fnv(b"foobar"), 0x8594_4171_F739_67E8);
+}
+
+/// The commands write the same files, and mistakes in the call end with 2.
+#[test]
+fn replay_commands() {
+    let oracle = |arguments: &[&str]| {
+        let command = Command::new(env!("CARGO_BIN_EXE_oracle"))
+            .args(arguments)
+            .output();
+        command.unwrap()
+    };
+    let (by_call, by_command) = (path("call.checks"), path("command.checks"));
+    let line = replay_checks(6, 10, &by_call).unwrap();
+    let output = oracle(&["replay-checks", "6", "10", by_command.to_str().unwrap()]);
+    assert_eq!(output.status.code(), Some(0));
+    assert_eq!(output.stdout, format!("{line}\n").as_bytes());
+    assert!(std::fs::read(&by_call).unwrap() == std::fs::read(&by_command).unwrap());
+    let mistakes: [&[&str]; 3] = [
+        &["replay-checks", "1", "10"],
+        &["replay-series", "1", "x", "no such file"],
+        &["replay-series", "1", "0", "no such directory/file"],
+    ];
+    for arguments in mistakes {
+        assert_eq!(oracle(arguments).status.code(), Some(2));
+    }
+}
