@@ -23,7 +23,7 @@ use Rattle.journal_layout.specs.Chains.{heldAmong, Chained, ofAccount}
 use Rattle.journal_layout.specs.Layout.{isLength, layoutOf, Journal, openedOf}
 use Rattle.journal.specs.declared.Delivery.the-variants.{Done}
 use Rattle.journal.specs.Delivery.{Outcome, delivered, refused, run, linesIn, outcomeOf, contentOf}
-use Rattle.journal.specs.Answers.{answerOf}
+use Rattle.journal.specs.Answers.{answerOf, Delivers}
 use Rattle.journal.specs.Arrivals.{arrivals, movementsIn, Summed}
 use Rattle.journal.specs.Series.{Event, deliver, Deliver, acceptedBy, after, accepted, heldAfter, Demand3}
 use Rattle.journal.proofs.Values.{held-append}
@@ -192,3 +192,11 @@ demand3 =
       counts = λ j h es f b s y e. let x = stored (from-opening j h es) f b (answered (outcomeOf (after ours (openedOf j) es) f b) e .1) in (x .stores, x .all);
       again = sent-again;
     }
+
+-- whatever opens and delivers by the contracts meets demand 3
+pub deliver-demand3 : (O : List ℕ → List ℕ) (D : Deliver) → ((j : List ℕ) → O j ≡ openedOf j)
+    → ((j : List ℕ) (f : Form) (b : List ℕ) → Delivers j f b (D j f b .answer) (D j f b .journal)) → Demand3 O D
+deliver-demand3 O D o d =
+    let p : O ≡ openedOf = λ i j. o j i in
+    let q : D ≡ ours = λ i j f b. record { answer = d j f b .answer i; journal = d j f b .content i } in
+    rw (p, q) demand3
