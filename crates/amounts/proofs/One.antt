@@ -4,11 +4,14 @@ use mathlib.Core.Bool.{Bool}
 use mathlib.Core.List.{List}
 use Prim.Native.Nat.{ℕ}
 use lib.IntN.{ℤ}
-use Rattle.amounts.specs.Answers.{Read, Absolute, Put}
+use Rattle.amounts.specs.Answers.{Read, HasAmount, Absolute, Put}
 use Rattle.amounts.specs.declared.Amount.{Amount}
 
 pub one-read : {s : List ℕ} {r q : Amount} → Read s r → Read s q → r ≡ q
 one-read g h = g .answer ∙ sym (h .answer)
+
+pub one-has-amount : {v : ℤ} {r q : Bool} → HasAmount v r → HasAmount v q → r ≡ q
+one-has-amount g h = g .answer ∙ sym (h .answer)
 
 pub one-absolute : {v : ℤ} {r q : ℕ} → Absolute v r → Absolute v q → r ≡ q
 one-absolute g h = g .answer ∙ sym (h .answer)

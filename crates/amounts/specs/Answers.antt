@@ -4,12 +4,16 @@ use mathlib.Core.Bool.{Bool}
 use mathlib.Core.List.{List}
 use Prim.Native.Nat.{ℕ}
 use lib.IntN.{ℤ, natAbs}
-use Rattle.amounts.specs.Amounts.{amountOf, canPut, putAmount}
+use Rattle.amounts.specs.Amounts.{amountOf, hasAmount, canPut, putAmount}
 use Rattle.amounts.specs.declared.Amount.{Amount}
 
 -- read
 pub record Read (s : List ℕ) (r : Amount) : Type 0 where
   pub answer : r ≡ amountOf s
+
+-- has_amount
+pub record HasAmount (v : ℤ) (r : Bool) : Type 0 where
+  pub answer : r ≡ hasAmount v
 
 -- absolute
 pub record Absolute (v : ℤ) (r : ℕ) : Type 0 where

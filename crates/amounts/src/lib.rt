@@ -2,8 +2,8 @@
 ghost use mathlib.Core.Path.{_≡_};
 ghost use Prim.Native.Nat.{_^_, _<_};
 ghost use lib.ListN.{length};
-ghost use Rattle.amounts.specs.Amounts.{signIndex, signedOf, signByte, signedText, isNegative, hasAmount};
-ghost use Rattle.amounts.specs.Answers.{Read, Absolute, Put};
+ghost use Rattle.amounts.specs.Amounts.{signIndex, signedOf, signByte, signedText, isNegative};
+ghost use Rattle.amounts.specs.Answers.{Read, HasAmount, Absolute, Put};
 
 pub enum Amount {
     Value(i64),
@@ -63,8 +63,9 @@ fn is_negative(v: i64) -> bool
     v < 0
 }
 
-fn has_amount(v: i64) -> bool
-    ensures { λ r. ⌜ r ≡ hasAmount v ⌝ }
+// Whether an amount can have the value: fourteen digits at most, either way.
+pub fn has_amount(v: i64) -> bool
+    ensures { λ r. ⌜ HasAmount v r ⌝ }
 {
     (-99999999999999 <= v) & (v <= 99999999999999)
 }

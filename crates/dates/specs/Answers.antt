@@ -3,12 +3,16 @@ use mathlib.Core.Path.{_≡_}
 use mathlib.Core.Bool.{Bool}
 use mathlib.Core.List.{List}
 use Prim.Native.Nat.{ℕ}
-use Rattle.dates.specs.Days.{dateOf, canPut, putDate}
+use Rattle.dates.specs.Days.{dateOf, isDay, canPut, putDate}
 use Rattle.dates.specs.declared.Date.{Date}
 
 -- read
 pub record Read (s : List ℕ) (r : Date) : Type 0 where
   pub answer : r ≡ dateOf s
+
+-- is_day
+pub record IsDay (k : ℕ) (r : Bool) : Type 0 where
+  pub answer : r ≡ isDay k
 
 -- put: whether it was written; refused, nothing changes
 pub record Put (k : ℕ) (out : List ℕ) (r : Bool) (out′ : List ℕ) : Type 0 where

@@ -2,8 +2,8 @@
 ghost use mathlib.Core.Path.{_≡_};
 ghost use Prim.Native.Nat.{_<_, _≤_};
 ghost use lib.ListN.{length};
-ghost use Rattle.dates.specs.Days.{yearOf, isLeap, daysIn, exists as existsOf, dayOf, isDay, dateText};
-ghost use Rattle.dates.specs.Answers.{Read, Put};
+ghost use Rattle.dates.specs.Days.{yearOf, isLeap, daysIn, exists as existsOf, dayOf, dateText};
+ghost use Rattle.dates.specs.Answers.{Read, IsDay, Put};
 
 pub enum Date {
     Day(u32),
@@ -78,11 +78,13 @@ pub fn read(s: &[u8]) -> Date
     day_of(year(yy), m, d)
 }
 
-fn is_day(k: u64) -> bool
-    ensures { λ r. ⌜ r ≡ isDay k ⌝ }
+// Whether a number YYYYMMDD is that of a day, in the years 1980 to 2079.
+pub fn is_day(k: u32) -> bool
+    ensures { λ r. ⌜ IsDay k r ⌝ }
 {
-    let y = k / 10000;
-    let real = exists(y, k / 100 % 100, k % 100);
+    let n = k as u64;
+    let y = n / 10000;
+    let real = exists(y, n / 100 % 100, n % 100);
     ((1980 <= y) & (y <= 2079)) & real
 }
 
@@ -102,7 +104,7 @@ pub fn put(out: &mut [u8], k: u32) -> bool
     if out.len() != 6 {
         return false;
     }
-    if !is_day(k as u64) {
+    if !is_day(k) {
         return false;
     }
     put_digits(out, k as u64);

@@ -20,7 +20,7 @@ returns-2 : tie.Need-returns-2
 unfolding putAmount
 returns-2 c =
     let a = c .before .before .before .before in
-    let e : hasAmount (a .args .v) ≡ false = rw (toZ-ofZ (a .fits .v)) at (sym (c .before .has-amount .ensures) ∙ not-true _ (c .if2 .taken)) in
+    let e : hasAmount (a .args .v) ≡ false = rw (toZ-ofZ (a .fits .v)) at (sym (c .before .has-amount .ensures .answer) ∙ not-true _ (c .if2 .taken)) in
     record { answer = rw (e, and-false); content = rw (e, and-false) }
 
 is-negative-requires : tie.Need-is-negative-requires
@@ -41,7 +41,7 @@ returns-3 c =
     let a = c .before .before .before .before .before .before .before .before .before .before in
     let h = c .before .before .before .before .before .before .before in
     let f = toZ-ofZ (a .fits .v) in
-    let e : hasAmount (a .args .v) ≡ true = rw f at (sym (h .has-amount .ensures) ∙ not-false _ (c .before .before .before .before .before .before .if2 .left)) in
+    let e : hasAmount (a .args .v) ≡ true = rw f at (sym (h .has-amount .ensures .answer) ∙ not-false _ (c .before .before .before .before .before .before .if2 .left)) in
     let l = eq-eqb _ 14 (h .before .if1 .left) in
     record {
       answer = rw (l, e);

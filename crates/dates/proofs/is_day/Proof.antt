@@ -8,7 +8,7 @@ exists-requires c κs = search needs
 
 returns : tie.Need-returns
 unfolding isDay
-returns c = rw (c .exists .ensures)
+returns c = record { answer = rw (c .exists .ensures) }
 
 pub is-day-spec : {M : Type 1} → statement M
 is-day-spec = tie.close (tie.spec exists-requires returns)

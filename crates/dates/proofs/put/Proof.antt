@@ -18,7 +18,7 @@ is-day-requires c κs = search needs
 returns-2 : tie.Need-returns-2
 unfolding putDate
 returns-2 c =
-    let e = sym (c .before .is-day .ensures) ∙ not-true _ (c .if2 .taken) in
+    let e = sym (c .before .is-day .ensures .answer) ∙ not-true _ (c .if2 .taken) in
     record { answer = rw (e, and-false); content = rw (e, and-false) }
 
 put-digits-requires : tie.Need-put-digits-requires
@@ -30,7 +30,7 @@ same-length c = search needs
 returns-3 : tie.Need-returns-3
 unfolding putDate
 returns-3 c =
-    let e = sym (c .before .before .before .before .before .is-day .ensures) ∙ not-false _ (c .before .before .before .before .if2 .left) in
+    let e = sym (c .before .before .before .before .before .is-day .ensures .answer) ∙ not-false _ (c .before .before .before .before .if2 .left) in
     let l = eq-eqb _ 6 (c .before .before .before .before .before .before .if1 .left) in
     record { answer = rw (l, e); content = rw (l, e) (c .before .before .put-digits .ensures) }
 
