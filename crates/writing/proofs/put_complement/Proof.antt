@@ -1,0 +1,104 @@
+use borrow.Author.Needs.{needs}
+use Rattle.writing.proofs.put_complement.Statement.{statement}
+use Rattle.writing.proofs.put_complement.Tie as tie
+
+returns : tie.Need-returns
+returns c = ?
+
+row-fits-requires : tie.Need-row-fits-requires
+row-fits-requires c κs = search needs
+
+text-fits-requires : tie.Need-text-fits-requires
+text-fits-requires c κs = search needs
+
+returns-2 : tie.Need-returns-2
+returns-2 c = ?
+
+sub-put-front : tie.Need-sub-put-front
+sub-put-front c = search needs
+
+part-put-front-start : tie.Need-part-put-front-start
+part-put-front-start c = search needs
+
+part-put-front-end : tie.Need-part-put-front-end
+part-put-front-end c = search needs
+
+put-front-requires : tie.Need-put-front-requires
+put-front-requires c κs = ?
+
+sub-put : tie.Need-sub-put
+sub-put c = search needs
+
+part-put-start : tie.Need-part-put-start
+part-put-start c = search needs
+
+part-put-end : tie.Need-part-put-end
+part-put-end c = search needs
+
+slice-aggregate-put : tie.Need-slice-aggregate-put
+slice-aggregate-put c = search needs
+
+put-requires : tie.Need-put-requires
+put-requires c κs = search needs
+
+sub-put-2 : tie.Need-sub-put-2
+sub-put-2 c = search needs
+
+part-put-start-2 : tie.Need-part-put-start-2
+part-put-start-2 c = search needs
+
+part-put-end-2 : tie.Need-part-put-end-2
+part-put-end-2 c = search needs
+
+put-requires-2 : tie.Need-put-requires-2
+put-requires-2 c κs = search needs
+
+sub-put-3 : tie.Need-sub-put-3
+sub-put-3 c = search needs
+
+part-put-start-3 : tie.Need-part-put-start-3
+part-put-start-3 c = search needs
+
+part-put-end-3 : tie.Need-part-put-end-3
+part-put-end-3 c = search needs
+
+slice-aggregate-put-2 : tie.Need-slice-aggregate-put-2
+slice-aggregate-put-2 c = search needs
+
+put-requires-3 : tie.Need-put-requires-3
+put-requires-3 c κs = search needs
+
+same-length : tie.Need-same-length
+same-length c = search needs
+
+returns-3 : tie.Need-returns-3
+returns-3 c = ?
+
+pub put-complement-spec : {M : Type 1} → statement M
+put-complement-spec =
+    tie.close
+    (tie.spec
+    returns
+    row-fits-requires
+    text-fits-requires
+    returns-2
+    sub-put-front
+    part-put-front-start
+    part-put-front-end
+    put-front-requires
+    sub-put
+    part-put-start
+    part-put-end
+    slice-aggregate-put
+    put-requires
+    sub-put-2
+    part-put-start-2
+    part-put-end-2
+    put-requires-2
+    sub-put-3
+    part-put-start-3
+    part-put-end-3
+    slice-aggregate-put-2
+    put-requires-3
+    same-length
+    returns-3)
