@@ -1,5 +1,5 @@
 -- An entry as the code writes it, and what is read of one.
-use mathlib.Core.Path.{_≡_, refl, sym, ap, ap₂, _∙_}
+use mathlib.Core.Path.{_≡_, refl, sym, ap, _∙_}
 use mathlib.Core.Bool.{true, false, not}
 use mathlib.Core.List.{List, [], _∷_, _++_, append-assoc, append-nil}
 use Prim.Native.Nat.{ℕ, _+_, _-_, _*_, _^_, _<_, _≤_}
@@ -14,7 +14,7 @@ use Rattle.zones.proofs.Every.{in-range, every-at}
 use Rattle.zones.specs.Number.{valueOf, digitsOf}
 use Rattle.zones.specs.Pieces.{flat}
 use Rattle.zones.proofs.Decimal.{length-digits, value-digits, digits-all}
-use Rattle.zones.proofs.Pasted.{total, Wide, pasted, filled}
+use Rattle.zones.proofs.Pasted.{pasted, filled, length-pieces}
 use Rattle.layouts.specs.Zone.{part}
 use Rattle.records.specs.July.{recordSize}
 use Rattle.entries.specs.declared.Entry.{Entry}
@@ -48,14 +48,6 @@ pub place-put : (x : List ℕ) (first n : ℕ) {a b c : List ℕ} → length x �
 unfolding placeText
 place-put x first n l p q r =
     rw (p, q, r) (filled (6 ∷ 4 ∷ 13 ∷ []) (digitsOf 6 first ∷ digitsOf 4 n ∷ replicate 13 32 ∷ []) x (length-digits 6 first, (length-digits 4 n, (refl, tt))) l)
-
--- pieces end to end are as long as all together
-length-pieces : (ws : List ℕ) (ys : List (List ℕ)) → Wide ws ys → length (flat ys) ≡ total ws
-unfolding flat
-length-pieces [] [] r = refl
-length-pieces [] (y ∷ ys) r = absurd r
-length-pieces (w ∷ ws) [] r = absurd r
-length-pieces (w ∷ ws) (y ∷ ys) r = length-append y (flat ys) ∙ ap₂ _+_ (r .0) (length-pieces ws ys (r .1))
 
 module _ (first n : ℕ) (o c : List ℕ) (h : length o ≡ recordSize) (k : length c ≡ recordSize) where
   length-key : length (keyText o) ≡ 25

@@ -1,2 +1,4 @@
 pub mod Tested
 pub mod Held
+pub mod Filled
+pub mod Refused

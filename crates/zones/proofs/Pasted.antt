@@ -1,5 +1,5 @@
 -- Pieces written one after another into a slice, each in the place of as many bytes.
-use mathlib.Core.Path.{_≡_, sym, ap, _∙_}
+use mathlib.Core.Path.{_≡_, refl, sym, ap, ap₂, _∙_}
 use mathlib.Core.List.{List, [], _∷_, _++_, append-assoc, append-nil}
 use Prim.Native.Nat.{ℕ, _+_, _≤_}
 use native.Mathlib.Omega.{arith}
@@ -59,3 +59,11 @@ pub filled : (ws : List ℕ) (ys : List (List ℕ)) (x : List ℕ) → Wide ws y
 filled ws ys x r h =
     let l : length x ≤ total ws = omega arith in
     pasted-is 0 ws ys x r (omega arith) ∙ rw (zero-add, drop-of-length-le x l) (append-nil (flat ys))
+
+-- pieces end to end are as long as all together
+pub length-pieces : (ws : List ℕ) (ys : List (List ℕ)) → Wide ws ys → length (flat ys) ≡ total ws
+unfolding flat
+length-pieces [] [] r = refl
+length-pieces [] (y ∷ ys) r = absurd r
+length-pieces (w ∷ ws) [] r = absurd r
+length-pieces (w ∷ ws) (y ∷ ys) r = length-append y (flat ys) ∙ ap₂ _+_ (r .0) (length-pieces ws ys (r .1))

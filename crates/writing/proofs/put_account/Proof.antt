@@ -1,3 +1,7 @@
+use Rattle.zones.proofs.Called.{put-whole}
+use Rattle.writing.proofs.Filled.{account-put, date-put}
+use mathlib.Core.Path.{_≡_, refl}
+use lib.ListN.{replicate}
 use borrow.Author.Needs.{needs}
 use Rattle.writing.proofs.put_account.Statement.{statement}
 use Rattle.writing.proofs.put_account.Tie as tie
@@ -71,8 +75,18 @@ put-requires-5 c κs = search needs
 same-length : tie.Need-same-length
 same-length c = search needs
 
+named : (c : tie.After-put) → c .put .last .0 ≡ c .before .before .before .before .before .before .args .t2 .currency
+named c = put-whole (c .put .ensures) (search needs)
+
 returns : tie.Need-returns
-returns c = ?
+returns c =
+    let s = c .before .before .before .before .before .before .before .before .before .before .before .before .before .before .before .before .before .before .before .before .before .before .before .before .before .before .before .before .before in
+    account-put 0 (s .args .t2) (replicate 4 32) (s .args .t3) (s .args .date) (search needs) refl (search needs) (s .args .out .now) (s .pre .0)
+    (named (c .before .before .before .before .before .before .before .before .before .before .before .before .before .before .before .before .before .before .before .before .before .before .before))
+    (put-whole (c .before .before .before .before .before .before .before .before .before .before .before .before .before .before .before .before .before .before .put2 .ensures) (search needs))
+    (put-whole (c .before .before .before .before .before .before .before .before .before .before .before .put3 .ensures) (search needs))
+    (put-whole (c .before .before .before .before .before .before .put4 .ensures) (search needs))
+    (date-put (c .before .before .put5 .ensures) (search needs) (s .pre .1))
 
 pub put-account-spec : {M : Type 1} → statement M
 put-account-spec =

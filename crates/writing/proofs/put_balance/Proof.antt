@@ -1,3 +1,6 @@
+use mir.Facts.{toZ-ofZ}
+use Rattle.zones.proofs.Called.{put-whole}
+use Rattle.writing.proofs.Filled.{balance-put, amount-put}
 use borrow.Author.Needs.{needs}
 use Rattle.writing.proofs.put_balance.Statement.{statement}
 use Rattle.writing.proofs.put_balance.Tie as tie
@@ -60,7 +63,13 @@ same-length : tie.Need-same-length
 same-length c = search needs
 
 returns : tie.Need-returns
-returns c = ?
+returns c =
+    let s = c .before .before .before .before .before .before .before .before .before .before .before .before .before .before .before .before .before .before .before in
+    balance-put (s .args .code) (s .args .key) (s .args .date) (s .args .amount) (search needs) (s .args .out .now) (s .pre .0)
+    (c .before .before .before .before .before .before .before .before .before .before .before .before .before .before .before .before .put-front .ensures)
+    (put-whole (c .before .before .before .before .before .before .before .before .before .before .before .put .ensures) (search needs))
+    (amount-put (rw (toZ-ofZ (s .fits .amount)) at (c .before .before .before .before .before .before .before .put2 .ensures)) (search needs) (s .pre .2))
+    (put-whole (c .before .before .put3 .ensures) (search needs))
 
 pub put-balance-spec : {M : Type 1} → statement M
 put-balance-spec =

@@ -1,3 +1,8 @@
+use Rattle.zones.proofs.Called.{put-whole}
+use Rattle.writing.proofs.Filled.{bank-put}
+use mathlib.Core.List.{[], _∷_}
+use mathlib.Core.Path.{_≡_, refl}
+use lib.ListN.{replicate}
 use borrow.Author.Needs.{needs}
 use Rattle.writing.proofs.put_bank.Statement.{statement}
 use Rattle.writing.proofs.put_bank.Tie as tie
@@ -59,8 +64,17 @@ put-requires-4 c κs = search needs
 same-length : tie.Need-same-length
 same-length c = search needs
 
+coded : (c : tie.After-put) → c .put .last .0 ≡ 48 ∷ c .before .before .before .before .args .code ∷ []
+coded c = put-whole (c .put .ensures) (search needs)
+
 returns : tie.Need-returns
-returns c = ?
+returns c =
+    let s = c .before .before .before .before .before .before .before .before .before .before .before .before .before .before .before .before .before .before .before .before .before .before .before .before .before in
+    bank-put (s .args .code) (s .args .t3) (s .args .t4) (replicate 2 32) 0 (search needs) (search needs) refl (s .args .out .now) (s .pre)
+    (coded (c .before .before .before .before .before .before .before .before .before .before .before .before .before .before .before .before .before .before .before .before .before))
+    (put-whole (c .before .before .before .before .before .before .before .before .before .before .before .before .before .before .put2 .ensures) (search needs))
+    (put-whole (c .before .before .before .before .before .before .before .before .before .put3 .ensures) (search needs))
+    (put-whole (c .before .before .put4 .ensures) (search needs))
 
 pub put-bank-spec : {M : Type 1} → statement M
 put-bank-spec =

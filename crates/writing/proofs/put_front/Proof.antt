@@ -1,3 +1,4 @@
+use Rattle.writing.proofs.Filled.{front-put}
 use borrow.Author.Needs.{needs}
 use Rattle.writing.proofs.put_front.Statement.{statement}
 use Rattle.writing.proofs.put_front.Tie as tie
@@ -30,7 +31,11 @@ same-length : tie.Need-same-length
 same-length c = search needs
 
 returns : tie.Need-returns
-returns c = ?
+returns c =
+    let s = c .before .before .before .before .before .before .before .before .before in
+    front-put (s .args .code) (s .args .key) (s .args .internal) (s .args .operation) (s .args .date) (search needs) (search needs) (search needs) (s .args .out .now) (s .pre .0)
+    (c .before .before .before .before .before .before .put-bank .ensures)
+    (c .before .before .put-account .ensures)
 
 pub put-front-spec : {M : Type 1} → statement M
 put-front-spec =
