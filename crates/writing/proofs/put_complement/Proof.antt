@@ -1,9 +1,19 @@
+use Rattle.writing.proofs.Tested.{KeyWide, RowWide}
+use mathlib.Core.Path.{_≡_, sym, _∙_}
+use mathlib.Core.Bool.{true, _&&_}
+use borrow.Author.Tests.{not-false}
+use Rattle.zones.proofs.Bools.{conj, and-left, and-right}
+use Rattle.zones.proofs.Called.{put-whole}
+use Rattle.writing.specs.Written.{movementHolds, textHolds, complementPut}
+use Rattle.writing.proofs.Filled.{complement-filled}
+use Rattle.writing.proofs.Refused.{other-room, not-held, held, dated, length-held}
 use borrow.Author.Needs.{needs}
 use Rattle.writing.proofs.put_complement.Statement.{statement}
 use Rattle.writing.proofs.put_complement.Tie as tie
 
 returns : tie.Need-returns
-returns c = ?
+unfolding complementPut
+returns c = record { content = other-room (movementHolds (c .before .before .before .args .key) (c .before .before .before .args .m) && textHolds (c .before .before .before .args .text .now)) _ (c .before .before .before .args .out .now) (c .if1 .taken) }
 
 row-fits-requires : tie.Need-row-fits-requires
 row-fits-requires c κs = search needs
@@ -12,7 +22,8 @@ text-fits-requires : tie.Need-text-fits-requires
 text-fits-requires c κs = search needs
 
 returns-2 : tie.Need-returns-2
-returns-2 c = ?
+unfolding complementPut
+returns-2 c = record { content = not-held (movementHolds (c .before .before .before .before .before .before .args .key) (c .before .before .before .before .before .before .args .m) && textHolds (c .before .before .before .before .before .before .args .text .now)) _ (c .before .before .before .before .before .before .args .out .now) (conj (c .before .before .row-fits .ensures .answer) (c .before .text-fits .ensures .answer)) (c .if2 .taken) }
 
 sub-put-front : tie.Need-sub-put-front
 sub-put-front c = search needs
@@ -23,8 +34,14 @@ part-put-front-start c = search needs
 part-put-front-end : tie.Need-part-put-front-end
 part-put-front-end c = search needs
 
+-- row and text can be held
+right : (c : tie.Else2) → (movementHolds (c .before .before .before .before .before .before .args .key) (c .before .before .before .before .before .before .args .m) && textHolds (c .before .before .before .before .before .before .args .text .now)) ≡ true
+right c = sym (conj (c .before .before .row-fits .ensures .answer) (c .before .text-fits .ensures .answer)) ∙ not-false _ (c .if2 .left)
+
 put-front-requires : tie.Need-put-front-requires
-put-front-requires c κs = ?
+put-front-requires c κs =
+    let s = c .before .before .before .before .before .before .before .before .before in
+    (search needs, dated (s .args .key) (s .args .m) (and-left (movementHolds (s .args .key) (s .args .m)) _ (right (c .before .before .before))) .booked)
 
 sub-put : tie.Need-sub-put
 sub-put c = search needs
@@ -71,8 +88,23 @@ put-requires-3 c κs = search needs
 same-length : tie.Need-same-length
 same-length c = search needs
 
+sizes : (c : tie.Start) → KeyWide (c .args .key) × RowWide (c .args .m)
+sizes c = (search needs, search needs)
+
 returns-3 : tie.Need-returns-3
-returns-3 c = ?
+unfolding complementPut
+returns-3 c =
+    let s = c .before .before .before .before .before .before .before .before .before .before .before .before .before .before .before .before .before .before .before .before .before .before .before .before .before .before in
+    let l = length-held (s .args .text .now) (and-right (movementHolds (s .args .key) (s .args .m)) _ (right (c .before .before .before .before .before .before .before .before .before .before .before .before .before .before .before .before .before .before .before .before))) in
+    record {
+      content =
+          held (movementHolds (c .before .before .before .before .before .before .before .before .before .before .before .before .before .before .before .before .before .before .before .before .before .before .before .before .before .before .args .key) (c .before .before .before .before .before .before .before .before .before .before .before .before .before .before .before .before .before .before .before .before .before .before .before .before .before .before .args .m) && textHolds (c .before .before .before .before .before .before .before .before .before .before .before .before .before .before .before .before .before .before .before .before .before .before .before .before .before .before .args .text .now)) _ (s .args .out .now) (c .before .before .before .before .before .before .before .before .before .before .before .before .before .before .before .before .before .before .before .before .before .before .before .if1 .left) (conj (c .before .before .before .before .before .before .before .before .before .before .before .before .before .before .before .before .before .before .before .before .before .before .row-fits .ensures .answer) (c .before .before .before .before .before .before .before .before .before .before .before .before .before .before .before .before .before .before .before .before .before .text-fits .ensures .answer)) (c .before .before .before .before .before .before .before .before .before .before .before .before .before .before .before .before .before .before .before .before .if2 .left)
+          (complement-filled (s .args .key) (s .args .m) (sizes s .0) (sizes s .1) (s .args .text .now) (s .args .out .now) l (c .before .before .before .before .before .before .before .before .before .before .before .before .before .before .before .before .before .before .before .before .before .before .before .if1 .left)
+          (c .before .before .before .before .before .before .before .before .before .before .before .before .before .before .before .before .put-front .ensures)
+          (put-whole (c .before .before .before .before .before .before .before .before .before .before .before .put .ensures) (search needs))
+          (put-whole (c .before .before .before .before .before .before .before .put2 .ensures) (l ∙ sym (search needs)))
+          (put-whole (c .before .before .put3 .ensures) (search needs)));
+    }
 
 pub put-complement-spec : {M : Type 1} → statement M
 put-complement-spec =

@@ -1,3 +1,12 @@
+use mathlib.Core.List.{[], _∷_}
+use Rattle.zones.specs.Number.{digitsOf}
+use Rattle.writing.proofs.Tested.{RowWide}
+use mathlib.Core.Path.{_≡_}
+use mir.Syntax.{w64}
+use mir.Val.{toZ, ofZ}
+use mir.Facts.{toZ-ofZ}
+use Rattle.zones.proofs.Called.{put-whole, put-digits}
+use Rattle.writing.proofs.Filled.{last-put, amount-put}
 use borrow.Author.Needs.{needs}
 use Rattle.writing.proofs.put_last.Statement.{statement}
 use Rattle.writing.proofs.put_last.Tie as tie
@@ -59,8 +68,26 @@ put-requires-3 c κs = search needs
 same-length : tie.Need-same-length
 same-length c = search needs
 
+whole : (c : tie.Start) → toZ w64 (ofZ w64 (c .args .t2 .amount)) ≡ c .args .t2 .amount
+whole c = toZ-ofZ (search needs)
+
+sizes : (c : tie.Start) → RowWide (c .args .t2)
+sizes c = search needs
+
+numbered : (c : tie.After-put-number) → c .put-number .last .0 ≡ digitsOf 7 (c .before .before .before .args .t2 .entry)
+numbered c = put-digits (c .put-number .ensures) 7 (search needs)
+
+flagged : (c : tie.After-put) → c .put .last .0 ≡ c .before .before .before .before .before .before .before .before .args .t2 .exempt ∷ c .before .before .before .before .before .before .before .before .args .t2 .unavailable ∷ []
+flagged c = put-whole (c .put .ensures) (search needs)
+
 returns : tie.Need-returns
-returns c = ?
+returns c =
+    let s = c .before .before .before .before .before .before .before .before .before .before .before .before .before .before .before .before .before .before .before .before .before .before in
+    last-put (s .args .t2) (sizes s) (s .args .out .now) (s .pre .0)
+    (numbered (c .before .before .before .before .before .before .before .before .before .before .before .before .before .before .before .before .before .before .before))
+    (flagged (c .before .before .before .before .before .before .before .before .before .before .before .before .before .before))
+    (amount-put (rw (whole s) at (c .before .before .before .before .before .before .before .before .before .put2 .ensures)) (search needs) (s .pre .1))
+    (put-whole (c .before .before .put3 .ensures) (search needs))
 
 pub put-last-spec : {M : Type 1} → statement M
 put-last-spec =

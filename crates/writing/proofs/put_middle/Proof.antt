@@ -1,3 +1,7 @@
+use Rattle.writing.proofs.Tested.{RowWide}
+use mathlib.Core.Path.{_≡_}
+use Rattle.zones.proofs.Called.{put-whole}
+use Rattle.writing.proofs.Filled.{middle-put, date-put}
 use borrow.Author.Needs.{needs}
 use Rattle.writing.proofs.put_middle.Statement.{statement}
 use Rattle.writing.proofs.put_middle.Tie as tie
@@ -56,8 +60,20 @@ put-requires-4 c κs = search needs
 same-length : tie.Need-same-length
 same-length c = search needs
 
+sizes : (c : tie.Start) → RowWide (c .args .t2)
+sizes c = search needs
+
+rejected : (c : tie.After-put) → c .put .last .0 ≡ c .before .before .before .before .before .before .args .t2 .reject
+rejected c = put-whole (c .put .ensures) (search needs)
+
 returns : tie.Need-returns
-returns c = ?
+returns c =
+    let s = c .before .before .before .before .before .before .before .before .before .before .before .before .before .before .before .before .before .before .before .before .before .before .before .before in
+    middle-put (s .args .t2) (sizes s) (s .args .out .now) (s .pre .0)
+    (rejected (c .before .before .before .before .before .before .before .before .before .before .before .before .before .before .before .before .before .before))
+    (date-put (c .before .before .before .before .before .before .before .before .before .before .before .before .before .before .put2 .ensures) (search needs) (s .pre .1))
+    (put-whole (c .before .before .before .before .before .before .before .put3 .ensures) (search needs))
+    (put-whole (c .before .before .put4 .ensures) (search needs))
 
 pub put-middle-spec : {M : Type 1} → statement M
 put-middle-spec =
