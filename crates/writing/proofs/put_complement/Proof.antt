@@ -1,3 +1,4 @@
+use lib.ListN.{length, replicate}
 use Rattle.writing.proofs.Tested.{KeyWide, RowWide}
 use mathlib.Core.Path.{_≡_, sym, _∙_}
 use mathlib.Core.Bool.{true, _&&_}
@@ -91,6 +92,12 @@ same-length c = search needs
 sizes : (c : tie.Start) → KeyWide (c .args .key) × RowWide (c .args .m)
 sizes c = (search needs, search needs)
 
+five-blanks : (c : tie.After-put) → c .put .last .0 ≡ replicate 5 32
+five-blanks c = put-whole (c .put .ensures) (search needs)
+
+copied : (c : tie.After-put2) → length (c .before .before .before .before .before .before .before .before .before .before .before .before .before .before .before .before .before .before .before .args .text .now) ≡ 73 → c .put2 .last .0 ≡ c .before .before .before .before .before .before .before .before .before .before .before .before .before .before .before .before .before .before .before .args .text .now
+copied c l = put-whole (c .put2 .ensures) (l ∙ sym (search needs))
+
 returns-3 : tie.Need-returns-3
 unfolding complementPut
 returns-3 c =
@@ -101,8 +108,8 @@ returns-3 c =
           held (movementHolds (c .before .before .before .before .before .before .before .before .before .before .before .before .before .before .before .before .before .before .before .before .before .before .before .before .before .before .args .key) (c .before .before .before .before .before .before .before .before .before .before .before .before .before .before .before .before .before .before .before .before .before .before .before .before .before .before .args .m) && textHolds (c .before .before .before .before .before .before .before .before .before .before .before .before .before .before .before .before .before .before .before .before .before .before .before .before .before .before .args .text .now)) _ (s .args .out .now) (c .before .before .before .before .before .before .before .before .before .before .before .before .before .before .before .before .before .before .before .before .before .before .before .if1 .left) (conj (c .before .before .before .before .before .before .before .before .before .before .before .before .before .before .before .before .before .before .before .before .before .before .row-fits .ensures .answer) (c .before .before .before .before .before .before .before .before .before .before .before .before .before .before .before .before .before .before .before .before .before .text-fits .ensures .answer)) (c .before .before .before .before .before .before .before .before .before .before .before .before .before .before .before .before .before .before .before .before .if2 .left)
           (complement-filled (s .args .key) (s .args .m) (sizes s .0) (sizes s .1) (s .args .text .now) (s .args .out .now) l (c .before .before .before .before .before .before .before .before .before .before .before .before .before .before .before .before .before .before .before .before .before .before .before .if1 .left)
           (c .before .before .before .before .before .before .before .before .before .before .before .before .before .before .before .before .put-front .ensures)
-          (put-whole (c .before .before .before .before .before .before .before .before .before .before .before .put .ensures) (search needs))
-          (put-whole (c .before .before .before .before .before .before .before .put2 .ensures) (l ∙ sym (search needs)))
+          (five-blanks (c .before .before .before .before .before .before .before .before .before .before .before))
+          (copied (c .before .before .before .before .before .before .before) l)
           (put-whole (c .before .before .put3 .ensures) (search needs)));
     }
 
