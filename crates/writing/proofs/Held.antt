@@ -16,11 +16,11 @@ use Rattle.zones.proofs.Every.{are-blanks}
 use Rattle.dates.specs.Days.{isDay, dateOf}
 use Rattle.amounts.specs.Amounts.{hasAmount}
 use Rattle.layouts.specs.Zone as Z
-use Rattle.layouts.specs.Zone.{part, text, either, byte, number, holds, zone, isDate, zoned, dated, passes, run, encode, holdsAll}
+use Rattle.layouts.specs.Zone.{part, text, either, byte, number, holds, zone, isDate, zoned, dated, run, encode, holdsAll}
 use Rattle.layouts.proofs.PerLayout.{passesZone, zone-at}
 use Rattle.grammar.specs.declared.Key.{Key}
 use Rattle.records.specs.Layouts.{front, layout01, layout04, layout05, layoutMmo, layout07}
-use Rattle.records.specs.July.{recordSize, isMmo, layout05Of, balanceValues, movementValues, writeMovement, writeComplement, repeats, HoldsComplement}
+use Rattle.records.specs.July.{recordSize, isMmo, balanceValues, movementValues, writeMovement, writeComplement, repeats, HoldsComplement}
 use Rattle.records.proofs.Covered.{covers04}
 use Rattle.records.proofs.Valued.{Judged, written-length, written-judged}
 use Rattle.records.proofs.Complements.{Placed, placed}

@@ -14,10 +14,9 @@ use Rattle.dates.specs.Days.{isDay}
 use Rattle.amounts.specs.Amounts.{hasAmount}
 use Rattle.layouts.specs.Zone.{text, either, byte, number, holds}
 use Rattle.grammar.specs.declared.Key.{Key}
-use Rattle.grammar.specs.Record.{Posting}
 use Rattle.records.specs.July.{recordSize}
 use Rattle.fields.specs.declared.Movement.{Movement}
-use Rattle.writing.specs.Written.{postingOf, keyHolds, balanceHolds, postingHolds, movementHolds, textHolds}
+use Rattle.writing.specs.Written.{keyHolds, balanceHolds, postingHolds, movementHolds, textHolds}
 
 module _ (h : Bool) (t x : List ℕ) where
   pub other-room : (length x ≡ recordSize → ⊥) → x ≡ pick (eqb (length x) recordSize && h) t x

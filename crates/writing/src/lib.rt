@@ -30,7 +30,8 @@ fn key_fits(key: Key) -> bool
 {
     zones::digits(&key.bank)
         & (zones::digits(&key.branch)
-            & (zones::letters(&key.currency) & (is_digit(key.decimals) & zones::alnums(&key.account))))
+            & (zones::letters(&key.currency)
+                & (is_digit(key.decimals) & zones::alnums(&key.account))))
 }
 
 fn posting_fits(m: Movement) -> bool
@@ -45,7 +46,8 @@ fn posting_fits(m: Movement) -> bool
                             & ((m.entry < 10000000)
                                 & (is_flag(m.exempt)
                                     & (is_flag(m.unavailable)
-                                        & (amounts::has_amount(m.amount) & zones::permitted(&m.reference))))))))))
+                                        & (amounts::has_amount(m.amount)
+                                            & zones::permitted(&m.reference))))))))))
 }
 
 // Whether a 01 or a 07 can hold these values.
@@ -77,7 +79,8 @@ fn mmo_fits(text: &[u8]) -> bool
     ensures { λ r. ⌜ r ≡ mmoHolds (now (text .entry)) ⌝ }
 {
     zones::letters(&text[3..6])
-        & (zones::digits(&text[6..7]) & (zones::digits(&text[7..21]) & zones::blanks(&text[21..73])))
+        & (zones::digits(&text[6..7])
+            & (zones::digits(&text[7..21]) & zones::blanks(&text[21..73])))
 }
 
 fn plain_fits(text: &[u8]) -> bool
