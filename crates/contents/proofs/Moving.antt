@@ -62,7 +62,7 @@ no-row : {x : Fields.Movement} → x ≡ rowAtOf [] 0 → x ≡ noRow
 unfolding rowAtOf
 no-row q = q
 
-row-held : (b : List ℕ) {k : Key} {p : Posting} (n : ℕ) → length b ≡ recordSize → decodeRecord b ≡ movement k p → rowAtOf b n ≡ rowOf p n
+pub row-held : (b : List ℕ) {k : Key} {p : Posting} (n : ℕ) → length b ≡ recordSize → decodeRecord b ≡ movement k p → rowAtOf b n ≡ rowOf p n
 unfolding rowAtOf
 row-held b n l e = rw (eq-eqb (length b) recordSize l) (ap (λ p. rowOf p n) (posted b e))
 

@@ -3,13 +3,16 @@ use mathlib.Core.Path.{_≡_, sym, _∙_}
 use mathlib.Core.List.{List}
 use Prim.Native.Nat.{ℕ}
 use Rattle.framing.specs.declared.Form.{Form}
-use Rattle.contents.specs.Answers.{RecordAt, HeadOf, MovementOf, ComplementOf}
+use Rattle.contents.specs.Answers.{RecordAt, MovementsIn, HeadOf, MovementOf, ComplementOf}
 use Rattle.contents.specs.declared.HeadAnswer.{HeadAnswer}
 use Rattle.contents.specs.declared.MovementAnswer.{MovementAnswer}
 use Rattle.contents.specs.declared.ComplementAnswer.{ComplementAnswer}
 
 pub one-record-at : {b : List ℕ} {at : ℕ} {r q : List ℕ} → RecordAt b at r → RecordAt b at q → r ≡ q
 one-record-at g h = g .answer ∙ sym (h .answer)
+
+pub one-movements-in : {f : Form} {b : List ℕ} {r q : ℕ} → MovementsIn f b r → MovementsIn f b q → r ≡ q
+one-movements-in g h = g .answer ∙ sym (h .answer)
 
 pub one-head-of : {f : Form} {b : List ℕ} {k : ℕ} {r q : HeadAnswer} → HeadOf f b k r → HeadOf f b k q → r ≡ q
 one-head-of g h = g .answer ∙ sym (h .answer)

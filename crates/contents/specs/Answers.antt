@@ -3,7 +3,9 @@ use mathlib.Core.Path.{_≡_}
 use mathlib.Core.List.{List}
 use Prim.Native.Nat.{ℕ}
 use Rattle.framing.specs.declared.Form.{Form}
-use Rattle.contents.specs.Heads.{recordAtOf, headIn}
+use Rattle.grammar.specs.Files.{checkOf}
+use Rattle.records.specs.July.{july}
+use Rattle.contents.specs.Heads.{recordAtOf, headIn, movementsIn}
 use Rattle.contents.specs.Movements.{movementIn, complementIn}
 use Rattle.contents.specs.declared.HeadAnswer.{HeadAnswer}
 use Rattle.contents.specs.declared.MovementAnswer.{MovementAnswer}
@@ -12,6 +14,10 @@ use Rattle.contents.specs.declared.ComplementAnswer.{ComplementAnswer}
 -- record_at
 pub record RecordAt (b : List ℕ) (at : ℕ) (r : List ℕ) : Type 0 where
   pub answer : r ≡ recordAtOf b at
+
+-- movements_in
+pub record MovementsIn (f : Form) (b : List ℕ) (r : ℕ) : Type 0 where
+  pub answer : r ≡ movementsIn (checkOf july f b)
 
 -- head_of
 pub record HeadOf (f : Form) (b : List ℕ) (k : ℕ) (r : HeadAnswer) : Type 0 where

@@ -2,11 +2,11 @@
 ghost use mathlib.Core.Path.{_≡_};
 ghost use mathlib.Core.List.{_∷_, []};
 ghost use Rattle.grammar.specs.Statements.{Statement};
-ghost use Rattle.grammar.specs.Files.{Reads, checkOf};
+ghost use Rattle.grammar.specs.Files.{Reads};
 ghost use Rattle.records.specs.July.{july};
-ghost use Rattle.contents.specs.Heads.{noHead, headAt, movementsIn};
+ghost use Rattle.contents.specs.Heads.{noHead, headAt};
 ghost use Rattle.contents.specs.Movements.{Single, stepsAfter, movementPlace, movementAmong, complementAmong, refusedComplement};
-ghost use Rattle.contents.specs.Answers.{RecordAt, HeadOf, MovementOf, ComplementOf};
+ghost use Rattle.contents.specs.Answers.{RecordAt, MovementsIn, HeadOf, MovementOf, ComplementOf};
 use fields::Movement;
 use framing::Form;
 use grammar::Key;
@@ -92,9 +92,9 @@ fn head_at(opening: &[u8], closing: &[u8]) -> Head
     }
 }
 
-// The number of movements of an accepted part.
-fn movements_in(form: Form, part: &[u8]) -> u64
-    ensures { λ n. ⌜ n ≡ movementsIn (checkOf july form (now (part .entry))) ⌝ }
+// The number of movements of an accepted part. 0 on refusal.
+pub fn movements_in(form: Form, part: &[u8]) -> u64
+    ensures { λ n. ⌜ MovementsIn form (now (part .entry)) n ⌝ }
 {
     match statements::check(form, part) {
         Checked::Accepted {

@@ -2,6 +2,7 @@
 ghost use Rattle.framing.specs.Answers.{Cut, WrongEnd};
 
 // The form of a file: what stands after each record, 0 nothing, 1 LF, 2 CR LF.
+#[repr(C)]
 pub struct Form {
     pub line_end: u64,
 }

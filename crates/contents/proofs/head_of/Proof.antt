@@ -49,7 +49,7 @@ no-head-requires : tie.Need-no-head-requires
 no-head-requires c κs = search needs
 
 returns : tie.Need-returns
-returns c = record { answer = headed (c .before .before .before .before .before .before .before .before .before .before .args .form) (c .before .before .before .before .before .before .before .before .before .before .args .file .now) (c .before .before .before .before .before .before .before .before .before .before .args .k) (sym (c .before .before .before .before .before .before .first .given .1) ∙ c .before .before .before .before .before .before .before .before .statement-place .ensures .answer) (rw (← c .before .before .before .before .record-at .ensures .answer, ← c .before .before .before .record-at2 .ensures .answer) (c .before .before .head-at .ensures)) (c .movements-in .ensures) }
+returns c = record { answer = headed (c .before .before .before .before .before .before .before .before .before .before .args .form) (c .before .before .before .before .before .before .before .before .before .before .args .file .now) (c .before .before .before .before .before .before .before .before .before .before .args .k) (sym (c .before .before .before .before .before .before .first .given .1) ∙ c .before .before .before .before .before .before .before .before .statement-place .ensures .answer) (rw (← c .before .before .before .before .record-at .ensures .answer, ← c .before .before .before .record-at2 .ensures .answer) (c .before .before .head-at .ensures)) (c .movements-in .ensures .answer) }
 
 returns-2 : tie.Need-returns-2
 returns-2 c = record { answer = not-headed (c .before .before .before .before .before .before .args .form) (c .before .before .before .before .before .before .args .file .now) (c .before .before .before .before .before .before .args .k) (sym (c .before .before .number .given .1) ∙ c .before .before .before .before .statement-place .ensures .answer) (c .no-head .ensures) }

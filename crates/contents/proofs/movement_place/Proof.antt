@@ -11,7 +11,7 @@ movements-in-requires : tie.Need-movements-in-requires
 movements-in-requires c κs = search needs
 
 returns-2 : tie.Need-returns-2
-returns-2 c = place-over (c .before .before .before .before .args .form) (c .before .before .before .before .args .part .now) (c .before .before .before .before .args .i) (c .before .before .if1 .left) (c .before .movements-in .ensures) (c .if2 .taken)
+returns-2 c = place-over (c .before .before .before .before .args .form) (c .before .before .before .before .args .part .now) (c .before .before .before .before .args .i) (c .before .before .if1 .left) (c .before .movements-in .ensures .answer) (c .if2 .taken)
 
 add-width : tie.Need-add-width
 add-width c = omega (arith, single-end (c .before .before .before .before .pre))
@@ -23,7 +23,7 @@ after-movements-requires : tie.Need-after-movements-requires
 after-movements-requires c κs = search needs
 
 returns-3 : tie.Need-returns-3
-returns-3 c = place-walked (c .before .before .before .before .before .args .form) (c .before .before .before .before .before .args .part .now) (c .before .before .before .before .before .args .i) (c .before .before .before .if1 .left) (c .before .before .movements-in .ensures) (c .before .if2 .left) (c .after-movements .ensures)
+returns-3 c = place-walked (c .before .before .before .before .before .args .form) (c .before .before .before .before .before .args .part .now) (c .before .before .before .before .before .args .i) (c .before .before .before .if1 .left) (c .before .before .movements-in .ensures .answer) (c .before .if2 .left) (c .after-movements .ensures)
 
 pub movement-place-spec : {M : Type 1} → statement M
 movement-place-spec =

@@ -1,0 +1,4 @@
+pub mod While
+pub mod Filled
+pub mod Reading
+pub mod One

@@ -1,0 +1,32 @@
+-- What the code does on its way: one row after another, by a plan.
+use mathlib.Core.Path.{_≡_}
+use mathlib.Core.List.{List, [], _∷_}
+use Prim.Native.Nat.{ℕ, zero, suc, _≤_}
+use lib.ListN.{length}
+use Rattle.framing.specs.declared.Form.{Form}
+use Rattle.fields.specs.Rows.{rowAtOf}
+use Rattle.fields.specs.declared.Movement.{Movement}
+use Rattle.readers.specs.Steps.{stepOf}
+use Rattle.contents.specs.Heads.{recordAtOf}
+use Rattle.tables.specs.declared.RowStep.{RowStep}
+use Rattle.tables.specs.declared.Plan.{Plan}
+use Rattle.tables.specs.Tables.{laid, refusedTable, tableAnswerOf, tableOf}
+
+-- the row of the movement at a place, and the place after it
+unfoldable pub rowStepOf : List ℕ → Form → (at : ℕ) → RowStep
+rowStepOf b f at = record { row = rowAtOf (recordAtOf b at) (stepOf b f at .complements); next = stepOf b f at .next }
+
+-- so many rows from a place on
+unfoldable pub rowsFrom : List ℕ → Form → (at n : ℕ) → List Movement
+rowsFrom b f at zero = []
+rowsFrom b f at (suc n) = rowStepOf b f at .row ∷ rowsFrom b f (rowStepOf b f at .next) n
+
+-- a refusal fills no row
+abbrev pub noRows : (n r : ℕ) → Plan
+noRows n r = record { answer = refusedTable n r; at = 0; rows = 0 }
+
+-- the answer for a table of so many rows, and what fills such a table
+pub record Planned (f : Form) (b : List ℕ) (k table : ℕ) (p : Plan) : Type 0 where
+  pub answer : p .answer ≡ tableAnswerOf f b k table
+  pub inside : p .rows ≤ table
+  pub content : (t : List Movement) → length t ≡ table → laid (rowsFrom b f (p .at) (p .rows)) t ≡ tableOf f b k t
