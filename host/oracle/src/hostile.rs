@@ -12,7 +12,7 @@ use crate::series::Operation;
 use crate::valid::{file, one_statement};
 
 /// Numbers that are no line end and no entry. Cut to fewer bits, some of them would be.
-const FAR_OUT: [u64; 16] = [
+pub const FAR_OUT: [u64; 16] = [
     3,
     129,
     255,

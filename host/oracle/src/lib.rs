@@ -1,9 +1,10 @@
-//! An independent check and reader of bank-statement files and a journal of them, with seeded
-//! generators of test files.
+//! An independent check, reader and writer of bank-statement files and a journal of them, with
+//! seeded generators of test files.
 //!
-//! Written from the paper's rules alone. `check` holds the rules of a file, `journal` and
-//! `delivery` those of the journal; `read`, `listing` and `series` stand on them. Everything else
-//! makes files and series to try them on, and what it makes does not hang on a rule.
+//! Written from the paper's rules alone. `check` holds the rules of a file, `writer` those of the
+//! values of a statement, `journal` and `delivery` those of the journal; `read`, `listing` and
+//! `series` stand on them. Everything else makes files, values and series to try them on, and what
+//! it makes does not hang on a rule.
 
 pub mod check;
 pub mod damage;
@@ -19,5 +20,8 @@ pub mod rng;
 pub mod series;
 pub mod series_cases;
 pub mod show;
+pub mod table_cases;
 pub mod valid;
+pub mod values;
 pub mod write;
+pub mod writer;

@@ -13,6 +13,7 @@ use oracle::replay::{replay_checks, replay_series};
 use oracle::series;
 use oracle::series_cases::{big_series, kept_series};
 use oracle::show::{complement_line, head_line, line, place_line, readings, row_line};
+use oracle::table_cases::replay_tables;
 use oracle::write::{answer_text, big, corpus, kept};
 
 const USAGE: &str = "usage:
@@ -38,6 +39,8 @@ const USAGE: &str = "usage:
       fixed checks and COUNT generated ones with their answers, in one binary file
   oracle replay-series SEED COUNT OUT
       the same with series
+  oracle replay-tables SEED COUNT OUT
+      the same with tables of movements, and with statements to write
   oracle time FILE LINE_END TIMES";
 
 fn main() -> ExitCode {
@@ -71,17 +74,20 @@ fn run(arguments: &[&str]) -> io::Result<()> {
         ["time", file, line_end, times] => {
             print_lines(&[time(file, number(line_end)?, number(times)?)?])
         }
-        ["replay-checks", seed, count, out] => {
-            let line = replay_checks(number(seed)?, number(count)?, Path::new(out))?;
-            print_lines(&[line])
-        }
-        ["replay-series", seed, count, out] => {
-            let line = replay_series(number(seed)?, number(count)?, Path::new(out))?;
-            print_lines(&[line])
-        }
+        ["replay-checks", seed, count, out] => replay(replay_checks, seed, count, out),
+        ["replay-series", seed, count, out] => replay(replay_series, seed, count, out),
+        ["replay-tables", seed, count, out] => replay(replay_tables, seed, count, out),
         ["series", ..] | ["series-kept", ..] | ["series-big", ..] => run_series(arguments),
         _ => run_reader(arguments),
     }
+}
+
+/// Writes cases of some kind with their answers.
+type WriteCases = fn(u64, u64, &Path) -> io::Result<String>;
+
+fn replay(write_cases: WriteCases, seed: &str, count: &str, out: &str) -> io::Result<()> {
+    let line = write_cases(number(seed)?, number(count)?, Path::new(out))?;
+    print_lines(&[line])
 }
 
 /// Series of operations on a journal.

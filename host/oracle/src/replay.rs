@@ -89,11 +89,11 @@ fn narrow(number: u64) -> u32 {
 pub struct Tally(pub BTreeMap<u32, u64>);
 
 impl Tally {
-    fn count(&mut self, answer: Numbers) {
-        *self.0.entry(answer.number).or_default() += 1;
+    fn count(&mut self, number: u32) {
+        *self.0.entry(number).or_default() += 1;
     }
 
-    fn words(&self) -> String {
+    pub fn words(&self) -> String {
         let word = |(number, count): (&u32, &u64)| match number {
             0 => format!("answered {count}"),
             _ => format!("refused with {number} {count}"),
@@ -123,7 +123,7 @@ impl Cases {
 
     pub fn check(&mut self, case: &Case) -> io::Result<()> {
         let answer = Numbers::of_check(case.line_end, &case.bytes);
-        self.tally.count(answer);
+        self.tally.count(answer.number);
         let mut bytes = Vec::new();
         put_bytes(&mut bytes, case.name.as_bytes());
         bytes.extend(case.line_end.to_le_bytes());
@@ -134,13 +134,22 @@ impl Cases {
 
     pub fn series(&mut self, series: &Series) -> io::Result<()> {
         for &answer in &series.answers {
-            self.tally.count(answer);
+            self.tally.count(answer.number);
         }
         let mut head = Vec::new();
         put_bytes(&mut head, series.name.as_bytes());
         head.extend(series.operations.to_le_bytes());
         self.out.write_all(&head)?;
         self.out.write_all(&series.bytes)
+    }
+
+    /// A case that stands in its bytes, with the refusal it expects or 0.
+    pub fn add(&mut self, name: &str, body: &[u8], number: u32) -> io::Result<()> {
+        self.tally.count(number);
+        let mut head = Vec::new();
+        put_bytes(&mut head, name.as_bytes());
+        self.out.write_all(&head)?;
+        self.out.write_all(body)
     }
 
     /// Ends the file. Gives the answers in it, counted.
@@ -151,7 +160,7 @@ impl Cases {
 }
 
 /// Bytes with their length before them.
-fn put_bytes(out: &mut Vec<u8>, bytes: &[u8]) {
+pub fn put_bytes(out: &mut Vec<u8>, bytes: &[u8]) {
     let length = u32::try_from(bytes.len()).expect("more than 4 GiB");
     out.extend(length.to_le_bytes());
     out.extend(bytes);
@@ -203,7 +212,7 @@ fn generated_check(rng: &mut Rng, list: &[Recipe], number: u64) -> Case {
 }
 
 /// A file of 2 to 8 records. One in ten is larger, so that every damage finds a place.
-fn few_records(rng: &mut Rng) -> Draft {
+pub fn few_records(rng: &mut Rng) -> Draft {
     if rng.one_in(10) {
         return small_file(rng);
     }

@@ -13,3 +13,4 @@ mod readings;
 mod series;
 mod shelf;
 mod worked;
+mod writer;
