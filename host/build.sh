@@ -1,6 +1,7 @@
 # How the C programs of the host are built and run here. Read by scripts that stand at the root of the repository; `give_up MESSAGE`, which ends them, is theirs.
-# It sets `cc` (the compiler), `run` (what stands before a program to run it) and `build`.
-archive=target/staticlib/libcollector.a
+# It sets `cc` (the compiler), `run` (what stands before a program to run it) and `build`. `crate` names the crate of the archive.
+crate=${crate:-collector}
+archive=target/staticlib/lib$crate.a
 
 install() { # PACKAGE..: Debian packages, quietly
     { apt-get install -y "$@" || { apt-get update && apt-get install -y "$@"; }; } >/dev/null 2>&1
@@ -23,8 +24,8 @@ else
     run=("$kit/on/$(uname -m)/toolchain/bin/qemu-x86_64" -L /usr/x86_64-linux-gnu)
     [ -x "${run[0]}" ] || give_up "the kit has no emulator ${run[0]}"
 fi
-[ -f "$archive" ] || rt staticlib collector || give_up "there is no $archive"
+[ -f "$archive" ] || rt staticlib "$crate" || give_up "there is no $archive"
 
-build() { # NAME PROGRAM: PROGRAM from host/NAME/NAME.c and the archive
-    "$cc" -O2 -Wall -Wextra -Werror -std=c11 -Ihost/include "host/$1/$1.c" "$archive" -o "$2"
+build() { # NAME PROGRAM SOURCE..: PROGRAM from host/NAME/NAME.c, other sources and the archive
+    "$cc" -O2 -Wall -Wextra -Werror -std=c11 -Ihost/include -Ihost/replay "host/$1/$1.c" "${@:3}" "$archive" -o "$2"
 }

@@ -6,129 +6,24 @@
  * and the largest journal are in memory. The first differences are printed in full. The last line is
  * 'N passed, M failed', counted in cases, and the status is 0 only where M is 0. A file that cannot be read to its end
  * is one failure more. */
-#define _DEFAULT_SOURCE
-#include <errno.h>
 #include <inttypes.h>
-#include <signal.h>
 #include <stdio.h>
 #include <stdlib.h>
 #include <string.h>
-#include <sys/mman.h>
 
+#include "cases.h"
 #include "crownhazel.h"
 
 enum {
-    MOST_FILE = 1 << 22,    /* bytes of a file in a case */
-    MOST_JOURNAL = 1 << 24, /* bytes of a journal in a case */
-    GUARD = 1 << 16,        /* bytes after a lent slice that nobody may touch */
-    MOST_NAME = 255,
-    MOST_SHOWN = 20         /* differences printed */
-};
-
-static uint64_t passed, failed, shown;
-
-/* A place from which slices of any length up to its room are lent. They end where the guard begins, so that a byte
- * read behind a slice ends the program. */
-struct shelf {
-    uint8_t *end;
+    MOST_FILE = 1 << 22,   /* bytes of a file in a case */
+    MOST_JOURNAL = 1 << 24 /* bytes of a journal in a case */
 };
 
 static struct shelf files, journals;
 static uint8_t *file_copy;
 
-/* Ends the program with one failure more. */
-static void stop(void) {
-    printf("%" PRIu64 " passed, %" PRIu64 " failed\n", passed, failed + 1);
-    fflush(stdout);
-    _Exit(1);
-}
-
-static void no_memory(void) {
-    printf("replay: no memory for the cases: %s\n", strerror(errno));
-    stop();
-}
-
-static struct shelf new_shelf(size_t room) {
-    uint8_t *first = mmap(NULL, room + GUARD, PROT_READ | PROT_WRITE, MAP_PRIVATE | MAP_ANONYMOUS, -1, 0);
-    if (first == MAP_FAILED || mprotect(first + room, GUARD, PROT_NONE) != 0) {
-        no_memory();
-    }
-    return (struct shelf){first + room};
-}
-
-/* A slice on a shelf. */
-struct slice {
-    uint8_t *first;
-    size_t length;
-};
-
-static struct slice lend(struct shelf shelf, size_t length) {
-    return (struct slice){shelf.end - length, length};
-}
-
-/* A slice of no bytes is lent in two ways: as a place that must not be read, and as NULL. */
-static unsigned ways(struct slice slice) {
-    return slice.length == 0 ? 2 : 1;
-}
-
-static uint8_t *lent(struct slice slice, unsigned way) {
-    return way == 0 ? slice.first : NULL;
-}
-
-/* A file of cases. After the first fault it gives zeros. */
-struct source {
-    FILE *stream;
-    const char *name;
-    bool broken;
-};
-
-static void fault(struct source *source, const char *what) {
-    if (!source->broken) {
-        printf("%s: %s\n", source->name, what);
-    }
-    source->broken = true;
-}
-
-static void take(struct source *source, uint8_t *into, size_t length) {
-    if (!source->broken && fread(into, 1, length, source->stream) != length) {
-        fault(source, ferror(source->stream) ? strerror(errno) : "ends too early");
-    }
-    if (source->broken) {
-        memset(into, 0, length);
-    }
-}
-
-/* A number of so many bytes, low byte first. */
-static uint64_t take_number(struct source *source, unsigned width) {
-    uint8_t bytes[8];
-    uint64_t number = 0;
-    take(source, bytes, width);
-    for (unsigned i = width; i > 0; i--) {
-        number = number << 8 | bytes[i - 1];
-    }
-    return number;
-}
-
-/* The length of what follows. */
-static size_t take_length(struct source *source, unsigned width, size_t most) {
-    uint64_t length = take_number(source, width);
-    if (length > most) {
-        fault(source, "has a length beyond its limit");
-        return 0;
-    }
-    return (size_t)length;
-}
-
-static void take_name(struct source *source, char name[MOST_NAME + 1]) {
-    size_t length = take_length(source, 4, MOST_NAME);
-    take(source, (uint8_t *)name, length);
-    name[length] = '\0';
-}
-
 static struct slice take_file(struct source *source) {
-    struct slice file = lend(files, take_length(source, 4, MOST_FILE));
-    take(source, file.first, file.length);
-    return file;
+    return take_bytes(source, files, MOST_FILE);
 }
 
 /* An answer in the paper's numbers. What a, b and c are depends on the call. */
@@ -186,33 +81,6 @@ static uint64_t hash(struct slice slice) {
         hash = (hash ^ slice.first[i]) * UINT64_C(0x100000001B3);
     }
     return hash;
-}
-
-/* Where a case is, for the difference that it may show. */
-struct place {
-    const char *kind;
-    uint64_t number;
-    char name[MOST_NAME + 1];
-    uint32_t operation; /* 0 for a check */
-    char call;
-};
-
-static void print_place(const struct place *place) {
-    printf("%s %" PRIu64 " (%s)", place->kind, place->number, place->name);
-    if (place->operation != 0) {
-        printf(", operation %" PRIu32 " (%c)", place->operation, place->call);
-    }
-    printf(": ");
-}
-
-/* True as long as differences are to be printed; then it has printed where this one is. */
-static bool begin_difference(const struct place *place) {
-    if (shown == MOST_SHOWN) {
-        return false;
-    }
-    shown++;
-    print_place(place);
-    return true;
 }
 
 static void print_answer(const char *word, struct answer answer, uint64_t number) {
@@ -359,80 +227,17 @@ static bool run_series(struct source *source, struct place *place) {
     return same;
 }
 
-/* The case that runs, for a call that does not come back. */
-static const struct place *current;
-
-static void on_signal(int signal) {
-    if (current != NULL) {
-        print_place(current);
-    }
-    printf("ended by signal %d\n", signal);
-    stop();
-}
-
-typedef bool run_case(struct source *source, struct place *place);
-
-/* The cases after the file's head. */
-static void replay_cases(struct source *source, const char *kind, run_case *run) {
-    uint64_t seed = take_number(source, 8);
-    uint64_t cases = take_number(source, 8);
-    if (!source->broken) {
-        printf("%s: seed %" PRIu64 ", %" PRIu64 " cases\n", source->name, seed, cases);
-    }
-    for (uint64_t number = 1; number <= cases && !source->broken; number++) {
-        struct place place = {.kind = kind, .number = number};
-        take_name(source, place.name);
-        current = &place;
-        bool same = run(source, &place);
-        current = NULL;
-        if (!source->broken) {
-            passed += same;
-            failed += !same;
-        }
-    }
-    if (!source->broken && fgetc(source->stream) != EOF) {
-        fault(source, "goes on after its last case");
-    }
-    if (ferror(source->stream)) {
-        fault(source, strerror(errno));
-    }
-}
-
-static void replay_file(const char *name, const char *kind, const char mark[8], run_case *run) {
-    uint8_t head[8];
-    struct source source = {fopen(name, "rb"), name, false};
-    if (source.stream == NULL) {
-        fault(&source, strerror(errno));
-        failed++;
-        return;
-    }
-    take(&source, head, sizeof head);
-    if (memcmp(head, mark, sizeof head) != 0) {
-        fault(&source, "is no file of such cases");
-    }
-    replay_cases(&source, kind, run);
-    failed += source.broken;
-    fclose(source.stream);
-}
-
 int main(int count, char **arguments) {
     if (count != 3) {
         fputs("usage: replay CHECKS SERIES\n", stderr);
         return 2;
     }
-    signal(SIGSEGV, on_signal);
-    signal(SIGBUS, on_signal);
-    signal(SIGILL, on_signal);
-    signal(SIGFPE, on_signal);
+    catch_signals();
     files = new_shelf(MOST_FILE);
     journals = new_shelf(MOST_JOURNAL);
-    file_copy = malloc(MOST_FILE);
-    if (file_copy == NULL) {
-        no_memory();
-    }
+    file_copy = new_memory(MOST_FILE);
     replay_file(arguments[1], "check", "CHCHECKS", run_check);
     replay_file(arguments[2], "series", "CHSERIES", run_series);
     free(file_copy);
-    printf("%" PRIu64 " passed, %" PRIu64 " failed\n", passed, failed);
-    return failed != 0;
+    return finish();
 }
