@@ -351,7 +351,7 @@ fn path(name: &str) -> PathBuf {
 fn tables_are_read_back() {
     let path = path("generated.tables");
     let line = replay_tables(3, 4_000, &path).unwrap();
-    assert!(line.starts_with("tables: seed 3, 3790 fixed, 4000 generated: answered "));
+    assert!(line.starts_with("tables: seed 3, 3792 fixed, 4000 generated: answered "));
     let file = std::fs::read(&path).unwrap();
     let mut reader = Reader(&file);
     assert_eq!(reader.take(8), TABLES);

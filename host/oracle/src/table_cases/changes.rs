@@ -51,7 +51,7 @@ pub const ZONES: [Change; 38] = [
 ];
 
 /// Zones of the 05. The three are LIB and MMO of the first movement and NPY of the second.
-pub const COMPLEMENTS: [Change; 28] = [
+pub const COMPLEMENTS: [Change; 30] = [
     ("mmo-twice", 19, |v| copy_complement(v, 1, 0)),
     ("mmo-of-each-movement", 0, |v| copy_complement(v, 1, 2)),
     ("mmo-twice-one-malformed", 19, |v| {
@@ -62,6 +62,11 @@ pub const COMPLEMENTS: [Change; 28] = [
         copy_complement(v, 1, 0);
         copy_complement(v, 1, 2);
     }),
+    ("mmo-twice-one-between", 19, |v| {
+        mmo_at_both_ends(v);
+        set_counts(v, 3, 0);
+    }),
+    ("mmo-at-both-ends-of-two", 0, mmo_at_both_ends),
     ("mmo-amount-letter", 19, |v| set(v, 1, 20, b'A')),
     ("mmo-amount-first-blank", 19, |v| set(v, 1, 7, b' ')),
     ("mmo-amount-sign", 19, |v| set(v, 1, 20, b'{')),
@@ -114,6 +119,13 @@ fn copy_complement(values: &mut Values, from: usize, to: usize) {
     values
         .complements
         .copy_within(73 * from..73 * (from + 1), 73 * to);
+}
+
+/// MMO, LIB, MMO.
+fn mmo_at_both_ends(values: &mut Values) {
+    copy_complement(values, 1, 2);
+    copy_complement(values, 0, 1);
+    copy_complement(values, 2, 0);
 }
 
 /// Counts and the length of the complements. Three stand there; the counts are 2 and 1.
