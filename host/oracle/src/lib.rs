@@ -17,6 +17,7 @@ pub mod read;
 pub mod record;
 pub mod replay;
 pub mod rng;
+pub mod samples;
 pub mod series;
 pub mod series_cases;
 pub mod show;

@@ -10,6 +10,7 @@ use oracle::listing::listing;
 use oracle::listing_cases::listings;
 use oracle::read::{complement, head, movement, place};
 use oracle::replay::{replay_checks, replay_series};
+use oracle::samples::write_samples;
 use oracle::series;
 use oracle::series_cases::{big_series, kept_series};
 use oracle::show::{complement_line, head_line, line, place_line, readings, row_line};
@@ -41,6 +42,8 @@ const USAGE: &str = "usage:
       the same with series
   oracle replay-tables SEED COUNT OUT
       the same with tables of movements, and with statements to write
+  oracle samples DIR
+      the files of samples/
   oracle time FILE LINE_END TIMES";
 
 fn main() -> ExitCode {
@@ -66,6 +69,7 @@ fn run(arguments: &[&str]) -> io::Result<()> {
             print_lines(&kept(number(seed)?, count, Path::new(directory))?)
         }
         ["big", directory] => print_lines(&big(Path::new(directory))?),
+        ["samples", directory] => print_lines(&write_samples(Path::new(directory))?),
         ["listings", seed, count, directory] => {
             let count = number(count)? as usize;
             print_lines(&listings(number(seed)?, count, Path::new(directory))?)

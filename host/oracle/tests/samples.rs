@@ -1,0 +1,91 @@
+//! The kept samples are what the command makes, and have the answers written here by hand.
+
+use std::collections::BTreeSet;
+use std::path::PathBuf;
+
+use oracle::check::check;
+use oracle::delivery::{deliver, Delivered};
+use oracle::journal::open;
+use oracle::read::Refusal;
+use oracle::samples::samples;
+use oracle::write::answer_text;
+
+fn kept() -> PathBuf {
+    PathBuf::from(env!("CARGO_MANIFEST_DIR")).join("../../samples")
+}
+
+#[test]
+fn kept_bytes_are_made_again() {
+    for sample in samples() {
+        let bytes = std::fs::read(kept().join(sample.name)).unwrap();
+        assert!(bytes == sample.bytes, "{} differs", sample.name);
+    }
+}
+
+/// No sample is kept that nothing makes.
+#[test]
+fn kept_names_are_those_of_the_list() {
+    let made: BTreeSet<String> = samples().iter().map(|s| s.name.to_string()).collect();
+    let files = std::fs::read_dir(kept()).unwrap();
+    let names = files.map(|file| file.unwrap().file_name().into_string().unwrap());
+    let found: BTreeSet<String> = names.filter(|name| name.ends_with(".cfonb")).collect();
+    assert_eq!(made, found);
+}
+
+#[test]
+fn answers_of_the_check() {
+    let expected = [
+        ("estate-three-months.cfonb", "accepted 3 12 3"),
+        ("estate-2025-01.cfonb", "accepted 1 4 1"),
+        ("estate-2025-02.cfonb", "accepted 1 4 1"),
+        ("estate-2025-03.cfonb", "accepted 1 4 1"),
+        ("two-accounts.cfonb", "accepted 4 10 2"),
+        ("refused-02-cut.cfonb", "refused 2 0"),
+        ("refused-04-line-end.cfonb", "refused 4 4"),
+        ("refused-05-byte.cfonb", "refused 5 5"),
+        ("refused-07-out-of-place.cfonb", "refused 7 2"),
+        ("refused-08-amount.cfonb", "refused 8 5"),
+        ("refused-09-date.cfonb", "refused 9 4"),
+        ("refused-10-other-account.cfonb", "refused 10 5"),
+        ("refused-12-booked-before.cfonb", "refused 12 4"),
+        ("refused-13-movement-missing.cfonb", "refused 13 6"),
+        ("refused-14-no-end.cfonb", "refused 14 6"),
+        ("refused-22-month-missing.cfonb", "accepted 2 8 2"),
+    ];
+    let samples = samples();
+    assert_eq!(samples.len(), expected.len());
+    for (sample, (name, answer)) in samples.iter().zip(expected) {
+        assert_eq!(sample.name, name);
+        assert_eq!(
+            answer_text(check(sample.line_end, &sample.bytes)),
+            answer,
+            "{name}"
+        );
+    }
+}
+
+/// The months one by one are held after all three at once; a month that is missing is refused.
+#[test]
+fn answers_of_delivery() {
+    let mut journal = vec![0; 7_680 + 120 * 100];
+    open(&mut journal).unwrap();
+    let mut answers = Vec::new();
+    for sample in samples() {
+        if sample.name.starts_with("estate") {
+            answers.push(deliver(&mut journal, sample.line_end, &sample.bytes));
+        }
+    }
+    let delivered = |stored, held| Ok(Delivered { stored, held });
+    let once = delivered(0, 1);
+    assert_eq!(answers, [delivered(3, 0), once.clone(), once.clone(), once]);
+    open(&mut journal).unwrap();
+    let gap = samples().pop().unwrap();
+    let refusal = Refusal {
+        number: 22,
+        record: 8,
+    };
+    assert_eq!(
+        deliver(&mut journal, gap.line_end, &gap.bytes),
+        Err(refusal)
+    );
+}
