@@ -1,0 +1,38 @@
+/* Bytes in memory, and reading and writing them whole: short counts and interruptions are seen to here. */
+#ifndef COMMAND_BYTES_H
+#define COMMAND_BYTES_H
+
+#include <stdbool.h>
+#include <stddef.h>
+#include <stdint.h>
+
+/* Begins as all zeros, ends with let_go. */
+struct bytes {
+    uint8_t *first;
+    size_t length;
+    size_t room;
+    bool mapped; /* made by stretch */
+};
+
+/* Each gives false with errno set where it fails. */
+
+/* Makes room for so many bytes. */
+bool make_room(struct bytes *bytes, size_t room);
+
+/* Reads to the end, or until so many bytes are there. */
+bool read_up_to(int descriptor, size_t most, struct bytes *bytes);
+
+/* Reads to the end and counts, without keeping what it reads. */
+bool count_rest(int descriptor, size_t *count);
+
+/* Makes the bytes so long. Those that are added read as zeros and take no memory. */
+bool stretch(struct bytes *bytes, size_t length);
+
+bool write_whole(int descriptor, const void *first, size_t length);
+
+/* Closes, and hands on what an earlier step said: false stays false, with its errno. */
+bool close_after(bool good, int descriptor);
+
+void let_go(struct bytes *bytes);
+
+#endif
