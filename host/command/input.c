@@ -29,7 +29,10 @@ bool is_standard_input(const char *name) {
 
 static bool read_all(int descriptor, struct bytes *file) {
     size_t rest = 0;
-    if (!read_up_to(descriptor, MOST_FILE, file) || !count_rest(descriptor, &rest)) {
+    if (!read_up_to(descriptor, MOST_FILE, file)) {
+        return false;
+    }
+    if (file->length == MOST_FILE && !count_rest(descriptor, &rest)) {
         return false;
     }
     return rest == 0 || stretch(file, file->length + rest);

@@ -2,6 +2,7 @@
  * records over with LF line ends, and reports what comes back. */
 #define _GNU_SOURCE
 #include <errno.h>
+#include <fcntl.h>
 #include <inttypes.h>
 #include <signal.h>
 #include <stdio.h>
@@ -98,7 +99,7 @@ static bool ended_well(pid_t child) {
 /* Runs the listing on an input, and keeps what it prints, with room for one byte more. */
 static bool run_listing(int input, struct bytes *printed) {
     int ends[2];
-    if (pipe(ends) != 0) {
+    if (pipe2(ends, O_CLOEXEC) != 0) {
         failed(listing_program(), "no pipe");
         return false;
     }
