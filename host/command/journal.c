@@ -153,13 +153,16 @@ bool read_journal(struct place *place, struct bytes *journal) {
     return good;
 }
 
-/* Owner and group as far as that is permitted, then the mode, which a change of owner can cut. */
-static bool make_alike(int descriptor, const struct stat *old) {
-    bool alike = fchown(descriptor, old->st_uid, old->st_gid) == 0;
-    if (!alike) {
-        alike = fchown(descriptor, (uid_t)-1, old->st_gid) == 0;
+/* Owner and group, or the group alone; what is not permitted stays as it is. */
+static void keep_owner(int descriptor, const struct stat *old) {
+    if (fchown(descriptor, old->st_uid, old->st_gid) != 0 && fchown(descriptor, (uid_t)-1, old->st_gid) != 0) {
+        return;
     }
-    (void)alike;
+}
+
+/* The mode comes last: a change of owner can cut it. */
+static bool make_alike(int descriptor, const struct stat *old) {
+    keep_owner(descriptor, old);
     return fchmod(descriptor, old->st_mode & 07777) == 0;
 }
 
@@ -186,15 +189,15 @@ static bool write_fresh(const struct place *place, const struct bytes *journal, 
     return descriptor >= 0 && close_after(fill(descriptor, journal, old), descriptor);
 }
 
-/* After a failure: what was begun is removed, and errno stays. */
-static void give_up_fresh(const struct place *place) {
+/* Where that fails, the next run does it. errno stays. */
+static void remove_fresh(const struct place *place) {
     int error = errno;
     unlink(place->fresh);
     errno = error;
 }
 
 static int not_written(const struct place *place, const char *left) {
-    give_up_fresh(place);
+    remove_fresh(place);
     complain(place->name, "%s cannot be written: %s; %s", place->fresh, strerror(errno), left);
     return SYSTEM;
 }
@@ -219,11 +222,11 @@ int replace_journal(const struct place *place, const struct bytes *journal) {
 int create_journal(const struct place *place, const struct bytes *journal) {
     bool written = write_fresh(place, journal, NULL);
     if (written && link(place->fresh, place->path) == 0) {
-        give_up_fresh(place);
+        remove_fresh(place);
         return settle_journal(place);
     }
     if (written && errno == EEXIST) {
-        give_up_fresh(place);
+        remove_fresh(place);
         return REFUSED;
     }
     return not_written(place, "there is no journal yet");

@@ -2,7 +2,6 @@
  * Exit status: 0 done, 1 refused, 2 usage, 3 system. */
 #define _DEFAULT_SOURCE
 #include <fcntl.h>
-#include <limits.h>
 #include <signal.h>
 #include <stdint.h>
 #include <string.h>
@@ -30,13 +29,14 @@ static const struct subcommand subcommands[] = {
 
 /* A closed descriptor would be given to the next file that is opened, and an answer written into it. What stands in
  * for it here cannot be read or written, so that its use is a failure with a message. */
-static void fill_descriptors(void) {
+static bool fill_descriptors(void) {
     static const int ways[] = {O_WRONLY, O_RDONLY, O_RDONLY};
     for (int descriptor = 0; descriptor <= 2; descriptor++) {
-        if (fcntl(descriptor, F_GETFD) < 0) {
-            open("/dev/null", ways[descriptor]);
+        if (fcntl(descriptor, F_GETFD) < 0 && open("/dev/null", ways[descriptor]) < 0) {
+            return false;
         }
     }
+    return true;
 }
 
 static int usage(void) {
@@ -56,25 +56,29 @@ static int run(const struct subcommand *subcommand, size_t count, char **words) 
     return subcommand->run(&arguments);
 }
 
+/* The first word is a subcommand or one of the two options that stand alone. */
+static int run_words(size_t count, char **words) {
+    if (strcmp(words[0], "--help") == 0) {
+        return answer_text(command_help, strlen(command_help));
+    }
+    if (strcmp(words[0], "--version") == 0) {
+        return answer_text(version, strlen(version));
+    }
+    for (size_t i = 0; i < sizeof subcommands / sizeof subcommands[0]; i++) {
+        if (strcmp(words[0], subcommands[i].form.subcommand) == 0) {
+            return run(&subcommands[i], count - 1, words + 1);
+        }
+    }
+    complain(words[0], "no subcommand");
+    return usage();
+}
+
 /* A reader that goes away and a file that may not grow are failures of a write, not the end of the command. */
 int main(int count, char **words) {
     signal(SIGPIPE, SIG_IGN);
     signal(SIGXFSZ, SIG_IGN);
-    fill_descriptors();
-    if (count < 2) {
-        return usage();
+    if (!fill_descriptors()) {
+        return failed("/dev/null", "nothing stands in for a closed descriptor");
     }
-    if (strcmp(words[1], "--help") == 0) {
-        return answer_text(command_help, strlen(command_help));
-    }
-    if (strcmp(words[1], "--version") == 0) {
-        return answer_text(version, strlen(version));
-    }
-    for (size_t i = 0; i < sizeof subcommands / sizeof subcommands[0]; i++) {
-        if (strcmp(words[1], subcommands[i].form.subcommand) == 0) {
-            return run(&subcommands[i], (size_t)count - 2, words + 2);
-        }
-    }
-    complain(words[1], "no subcommand");
-    return usage();
+    return count < 2 ? usage() : run_words((size_t)count - 1, words + 1);
 }
