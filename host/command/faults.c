@@ -31,6 +31,7 @@ int __real_flock(int descriptor, int operation);
 int __real_link(const char *from, const char *to);
 int __real_rename(const char *from, const char *to);
 int __real_unlink(const char *path);
+int __real_access(const char *path, int rights);
 
 int __wrap_open(const char *path, int flags, ...);
 ssize_t __wrap_read(int descriptor, void *into, size_t room);
@@ -43,6 +44,7 @@ int __wrap_flock(int descriptor, int operation);
 int __wrap_link(const char *from, const char *to);
 int __wrap_rename(const char *from, const char *to);
 int __wrap_unlink(const char *path);
+int __wrap_access(const char *path, int rights);
 
 /* What is to happen at a call. */
 enum fault { NOTHING, KILL, CUT, SHORT, FAIL };
@@ -163,4 +165,8 @@ int __wrap_rename(const char *from, const char *to) {
 
 int __wrap_unlink(const char *path) {
     return fault_at("unlink") == FAIL ? -1 : __real_unlink(path);
+}
+
+int __wrap_access(const char *path, int rights) {
+    return fault_at("access") == FAIL ? -1 : __real_access(path, rights);
 }

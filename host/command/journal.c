@@ -153,17 +153,13 @@ bool read_journal(struct place *place, struct bytes *journal) {
     return good;
 }
 
-/* Owner and group, or the group alone; what is not permitted stays as it is. */
-static void keep_owner(int descriptor, const struct stat *old) {
-    if (fchown(descriptor, old->st_uid, old->st_gid) != 0 && fchown(descriptor, (uid_t)-1, old->st_gid) != 0) {
-        return;
-    }
-}
-
-/* The mode comes last: a change of owner can cut it. */
+/* Owner and group as far as that is permitted, then the mode, which a change of owner can cut. The bits that lend the
+ * rights of owner or group go with these alone. */
 static bool make_alike(int descriptor, const struct stat *old) {
-    keep_owner(descriptor, old);
-    return fchmod(descriptor, old->st_mode & 07777) == 0;
+    bool owned = fchown(descriptor, old->st_uid, old->st_gid) == 0;
+    bool grouped = owned || fchown(descriptor, (uid_t)-1, old->st_gid) == 0;
+    mode_t most = 01777 | (owned ? S_ISUID : 0) | (grouped ? S_ISGID : 0);
+    return fchmod(descriptor, old->st_mode & most) == 0;
 }
 
 static bool sync_whole(int descriptor) {
@@ -211,7 +207,12 @@ int settle_journal(const struct place *place) {
     return SYSTEM;
 }
 
+/* A rename does not ask for the right to write the old file, so it is asked for here: a journal can be closed by its
+ * mode. */
 int replace_journal(const struct place *place, const struct bytes *journal) {
+    if (access(place->path, W_OK) != 0) {
+        return failed(place->name, "the journal may not be changed");
+    }
     if (!write_fresh(place, journal, &place->status) || rename(place->fresh, place->path) != 0) {
         return not_written(place, "the journal is as it was");
     }

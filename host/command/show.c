@@ -117,8 +117,7 @@ static bool run_listing(int input, struct bytes *printed) {
 }
 
 static int too_long(const char *name) {
-    complain(name, "refused with TROP LONG: more than %d bytes with LF line ends, %d records", MOST_LISTED,
-             MOST_SENT - 1);
+    complain(name, "refused with TROP LONG: more than 65,340 bytes with LF line ends, which is 540 records");
     return REFUSED;
 }
 
