@@ -1,3 +1,4 @@
+/* Judges files. */
 #include <inttypes.h>
 
 #include "commands.h"

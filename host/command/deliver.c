@@ -1,3 +1,4 @@
+/* Delivers files to a journal, each for itself. */
 #include <inttypes.h>
 
 #include "commands.h"

@@ -1,3 +1,4 @@
+/* Lists what a journal holds. */
 #include <inttypes.h>
 #include <stdio.h>
 #include <string.h>

@@ -7,7 +7,8 @@
  *   cut    half is written, then the command is killed; where the call is no write, as kill
  *   short  a read or write does one byte; other calls are as they are
  *   ERRNO  a number: the call fails with it
- * CROWNHAZEL_FAULT_LOG names a file to which the name of each call is appended, and after it '!' where the fault came. */
+ * CROWNHAZEL_FAULT_LOG names a file to which the name of each call is appended, with '!' after it where the fault
+ * came. */
 #define _GNU_SOURCE
 #include <errno.h>
 #include <fcntl.h>

@@ -1,4 +1,4 @@
-#include <inttypes.h>
+/* Makes a blank journal. */
 #include <stdlib.h>
 #include <string.h>
 

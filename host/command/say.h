@@ -13,7 +13,8 @@ __attribute__((format(printf, 2, 3))) void complain(const char *name, const char
 /* 'crownhazel: NAME: WHAT: ' and the words of errno. Answers SYSTEM. */
 int failed(const char *name, const char *what);
 
-/* A refusal: number, record, the words of the list, and what to do. The journal is NULL where none is asked. Answers REFUSED. */
+/* A refusal: number, record, the words of the list and, where a journal is named, what to do about it. The journal can
+ * be NULL. Answers REFUSED. */
 int refused(const char *name, uint32_t number, uint32_t record, const char *journal);
 
 /* 'NAME: ..' on standard output. Answers DONE, or SYSTEM with a message where it cannot be written. */
