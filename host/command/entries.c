@@ -1,7 +1,6 @@
 /* Lists what a journal holds. */
 #include <inttypes.h>
 #include <stdio.h>
-#include <string.h>
 
 #include "commands.h"
 #include "crownhazel.h"
