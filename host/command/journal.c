@@ -30,14 +30,17 @@ static char *path_in_folder(const char *name) {
     return path;
 }
 
-/* NULL with errno. A name that ends in a slash is a folder's; a link that leads nowhere has no place. */
+/* NULL with errno. A name that ends in a slash is a folder's; a link that leads nowhere has no place. A file that
+ * appears meanwhile has one. */
 static char *path_of(const char *name) {
-    struct stat link;
+    struct stat status;
     char *path = realpath(name, NULL);
-    if (path != NULL || errno != ENOENT || lstat(name, &link) == 0) {
+    if (path != NULL || errno != ENOENT) {
         return path;
     }
-    if (name[0] == '\0' || name[strlen(name) - 1] == '/') {
+    bool leads_nowhere = lstat(name, &status) == 0 && S_ISLNK(status.st_mode);
+    if (leads_nowhere || name[0] == '\0' || name[strlen(name) - 1] == '/') {
+        errno = ENOENT;
         return NULL;
     }
     return path_in_folder(name);
