@@ -1,0 +1,17 @@
+pub mod Alls
+pub mod Back
+pub mod Texts
+pub mod Rows
+pub mod Carried
+pub mod Laid
+pub mod Written
+pub mod Theorems
+pub mod Planned
+pub mod Turns
+pub mod Groups
+pub mod Tallied
+pub mod Places
+pub mod Ends
+pub mod Folded
+pub mod Again
+pub mod One

@@ -1,0 +1,133 @@
+-- What the writer promises: when it refuses with 19, what a file of its bytes reads as, and that reading and writing give the same records back.
+use mathlib.Core.Path.{_≡_, refl, sym, ap, ap₂, _∙_}
+use mathlib.Core.Logic.{_↔_}
+use mathlib.Core.Bool.{Bool, true, false}
+use mathlib.Core.List.{List, [], _∷_, _++_, map, append-nil}
+use Prim.Native.Nat.{ℕ, _+_, _-_, _<_}
+use native.Mathlib.Nat.{zero-mul}
+use native.Mathlib.Omega.{arith}
+use lib.Dec.{ltb}
+use lib.ListN.{length, take, getD}
+use lib.Seq.{take-at}
+use Rattle.zones.specs.Choice.{pick}
+use Rattle.zones.specs.Pieces.{flat}
+use Rattle.framing.specs.declared.Form.{Form}
+use Rattle.framing.specs.Files.{All, fileOf, endOf, piecesOf, widthOf}
+use Rattle.grammar.specs.Record.{Rec}
+use Rattle.grammar.specs.Statements.{Statement, recordsOfMovements, recordsOf, allRecords}
+use Rattle.grammar.specs.Files.{Reads, Writable, layoutOf}
+use Rattle.grammar.specs.Parts.{nothing, partOf}
+use Rattle.grammar.proofs.Seam.{piecesFor}
+use Rattle.grammar.proofs.Trips.{one-records}
+use Rattle.records.specs.July.{recordSize, Holds, july, july2004, encodeRecord}
+use Rattle.records.proofs.Lawful.{july-lawful}
+use Rattle.records.proofs.Theorems as records
+use Rattle.fields.specs.declared.Movement.{Movement}
+use Rattle.readers.proofs.Rows.{pieces-from}
+use Rattle.contents.specs.Heads.{headFrom}
+use Rattle.contents.specs.declared.Head.{Head}
+use Rattle.tables.specs.Tables.{rowsOf}
+use Rattle.writer.specs.Values.{statementFrom, textsOf, ReadAs, Carried, writtenOf, plain, recordsIn}
+use Rattle.writer.specs.Test.{carries}
+use Rattle.writer.specs.Writing.{refusedWrite, writeAnswerOf}
+use Rattle.writer.proofs.Alls.{all-left}
+use Rattle.writer.proofs.Back.{rows-back, texts-back, movements-back, texts-counted}
+use Rattle.writer.proofs.Carried.{carried, carries-all}
+use Rattle.writer.proofs.Laid.{text}
+
+-- a file without line ends is its records
+plain-file : (rs : List Rec) → fileOf plain (map encodeRecord rs) ≡ text rs
+unfolding fileOf flat endOf
+plain-file [] = refl
+plain-file (r ∷ rs) = ap₂ _++_ (append-nil (encodeRecord r)) (plain-file rs)
+
+-- a record with its line end, cut off again
+cut-again : (f : Form) (rs : List Rec) → All Holds rs → map (take recordSize) (piecesFor july f rs) ≡ map encodeRecord rs
+cut-again f [] o = refl
+cut-again f (r ∷ rs) o = ap₂ _∷_ (take-at (encodeRecord r) (endOf f) recordSize (july-lawful .wide r (o .0))) (cut-again f rs (o .1))
+
+module _ (h : Head) (rows : List Movement) (cs : List ℕ) where
+  abbrev s : Statement
+  s = statementFrom h rows cs
+
+  -- WHAT IS WRITTEN IS ACCEPTED and reads as the statement of these values
+  pub written-reads : Carried h rows cs → Reads july plain (writtenOf h rows cs) (s ∷ [])
+  unfolding writtenOf layoutOf
+  written-reads c =
+      let w = c .writable in
+      record {
+        line = refl;
+        valid = (w .valid, tt);
+        ok = rw (one-records july2004 s) (w .ok);
+        layout = rw (one-records july2004 s) (plain-file (recordsOf july2004 s));
+        few = rw (one-records july2004 s) (w .few);
+      }
+
+  -- and as exactly these values
+  pub carried-read : Carried h rows cs → ReadAs h rows cs
+  carried-read c =
+      record {
+        form = plain;
+        file = writtenOf h rows cs;
+        statements = s ∷ [];
+        reads = written-reads c;
+        number = 0;
+        inside = omega arith;
+        same-head = refl;
+        same-rows = rows-back rows cs;
+        same-complements = texts-back rows cs (c .whole);
+      }
+
+module _ {f : Form} {b : List ℕ} {ss : List Statement} (r : Reads july f b ss) (j : ℕ) (l : j < length ss) where
+  abbrev t : Statement
+  t = getD ss j nothing
+
+  abbrev cs : List ℕ
+  cs = flat (textsOf (t .movements))
+
+  alone : Reads july f (partOf july f b (j + 1)) (t ∷ [])
+  alone = records.part-reads r j l
+
+  writable : Writable july t
+  writable = records.writable t .0 (f, (partOf july f b (j + 1), alone))
+
+  held : All Holds (recordsOfMovements july2004 (t .key) (t .movements))
+  unfolding recordsOf
+  held = all-left Holds (recordsOfMovements july2004 (t .key) (t .movements)) _ (writable .ok .1)
+
+  -- the values read of a statement say that statement
+  statement-back : statementFrom (headFrom t) (rowsOf (t .movements)) cs ≡ t
+  statement-back = ap (λ ms. record { key = t .key; old-date = t .old-date; old-balance = t .old-balance; movements = ms; new-date = t .new-date; new-balance = t .new-balance }) (movements-back (t .key) (t .movements) held)
+
+  pub read-carried : Carried (headFrom t) (rowsOf (t .movements)) cs
+  read-carried = record { whole = texts-counted (t .key) (t .movements) held; writable = rw statement-back writable }
+
+  -- THE ROUND TRIP: head, rows and complements read of statement j, from 0, are written as its records
+  pub read-written : writtenOf (headFrom t) (rowsOf (t .movements)) cs ≡ recordsIn f (partOf july f b (j + 1))
+  unfolding writtenOf recordsIn
+  read-written =
+      ap (λ s. text (recordsOf july2004 s)) statement-back
+      ∙ sym (ap (λ ps. flat (map (take recordSize) ps)) (whole-pieces ∙ ap (piecesFor july f) (one-records july2004 t)) ∙ ap flat (cut-again f (recordsOf july2004 t) (writable .ok)))
+    where
+      whole-pieces : piecesOf recordSize f (partOf july f b (j + 1)) ≡ piecesFor july f (allRecords july2004 (t ∷ []))
+      whole-pieces = rw (zero-mul (widthOf recordSize f)) at (pieces-from alone 0)
+
+module _ (h : Head) (rows : List Movement) (cs : List ℕ) where
+  -- 19 EXACTLY: no accepted file reads as these values
+  pub read-carries : ReadAs h rows cs → carries h rows cs ≡ true
+  read-carries r = carries-all h rows cs (rw (r .same-head, r .same-rows, r .same-complements) at (read-carried (r .reads) (r .number) (r .inside)))
+
+  pub refused-19 : (n : ℕ) → (writeAnswerOf h rows cs n .number ≡ 19) ↔ (ReadAs h rows cs → ⊥)
+  unfolding writeAnswerOf
+  refused-19 n = (
+    (λ e r. other (ltb n (length (writtenOf h rows cs))) (length (writtenOf h rows cs)) (rw (read-carries r) at e)),
+    (λ none. by (carries h rows cs) refl none),
+  )
+    where
+      other : (t : Bool) (m : ℕ) → pick t (refusedWrite 20) (record { number = 0; «record» = 0; bytes = m }) .number ≡ 19 → ⊥
+      other true m e = omega arith
+      other false m e = omega arith
+
+      by : (t : Bool) → carries h rows cs ≡ t → (ReadAs h rows cs → ⊥) → writeAnswerOf h rows cs n .number ≡ 19
+      by true e none = absurd (none (carried-read h rows cs (carried h rows cs e)))
+      by false e none = rw e
