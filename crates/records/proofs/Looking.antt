@@ -5,14 +5,16 @@ use mathlib.Core.List.{List, [], _∷_}
 use Prim.Native.Nat.{ℕ}
 use native.Mathlib.Omega.{arith}
 use lib.Dec.{eqb}
-use lib.ListN.{length, drop, getD}
+use lib.ListN.{length, take, drop, getD}
 use lib.Seq.{take-take}
 use lib.IntN.{ℤ}
 use borrow.Author.Tests.{eq-eqb, ne-eqb}
 use Rattle.zones.specs.Choice.{pick}
+use Rattle.zones.specs.Class.{permitted, inClass, all}
 use Rattle.zones.specs.Copy.{sameBytes}
 use Rattle.zones.specs.Text.{bytes}
 use Rattle.zones.proofs.Bools.{and-one, conj}
+use Rattle.zones.proofs.Every.{every-take, every-drop}
 use Rattle.amounts.specs.Amounts.{isAmount, amountOf, signedOf, isDebit, magnitude}
 use Rattle.amounts.specs.declared.Amount.the-variants.{Value, NoAmount}
 use Rattle.dates.specs.Days.{dateOf}
@@ -86,12 +88,16 @@ module _ (b : List ℕ) {k : ℕ} (e : k ≡ kindOf b) where
   dates-other h p = p ∙ sym (kinds b .dates (λ q. h (e ∙ q)))
 
 -- all that the code knows of a record, from what it was told
-pub looked : (b : List ℕ) → length b ≡ recordSize → {u m s d : Bool} {k day : ℕ} {v : ℤ} → u ≡ unknownCode b → k ≡ kindOf b → s ≡ run zoned (layoutOf b) b → d ≡ run dated (layoutOf b) b
-    → day ≡ dateIn b → v ≡ amountIn b → m ≡ isMmo (part 46 118 b)
-    → _≡_ {A = Look} (record { unknown = u; kind = k; misfit = not s; undated = not d; day = day; amount = v; mmo = m }) (lookOf b)
+pub looked : (b : List ℕ) → length b ≡ recordSize → {u m s d c : Bool} {k day : ℕ} {v : ℤ} → u ≡ unknownCode b → k ≡ kindOf b → s ≡ run zoned (layoutOf b) b → d ≡ run dated (layoutOf b) b
+    → day ≡ dateIn b → v ≡ amountIn b → m ≡ isMmo (part 46 118 b) → c ≡ all permitted b
+    → _≡_ {A = Look} (record { unknown = u; kind = k; misfit = not s; undated = not d; day = day; amount = v; mmo = m; permitted = c }) (lookOf b)
 unfolding lookOf misfit undated
-looked b l p q r s t u v = rw (p, q, r, s, t, u, v, eq-eqb (length b) recordSize l)
+looked b l p q r s t u v w = rw (p, q, r, s, t, u, v, w, eq-eqb (length b) recordSize l)
 
 pub not-looked : (b : List ℕ) → (length b ≡ recordSize → ⊥) → noRecord ≡ lookOf b
 unfolding lookOf
 not-looked b h = rw (ne-eqb (length b) recordSize h)
+
+-- a part of permitted bytes is of permitted bytes
+pub part-permitted : (n a : ℕ) (b : List ℕ) {c : Bool} → c ≡ all permitted b → c ≡ true → all permitted (take n (drop a b)) ≡ true
+part-permitted n a b e h = every-take (inClass permitted) n (drop a b) (every-drop (inClass permitted) a b (sym e ∙ h))

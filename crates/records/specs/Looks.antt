@@ -6,7 +6,7 @@ use lib.Dec.{eqb}
 use lib.ListN.{length}
 use lib.IntN.{pos}
 use Rattle.zones.specs.Choice.{pick}
-use Rattle.zones.specs.Class.{Class, all}
+use Rattle.zones.specs.Class.{Class, permitted, all}
 use Rattle.amounts.specs.declared.Amount.{Amount}
 use Rattle.amounts.specs.declared.Amount.the-variants.{Value, NoAmount}
 use Rattle.layouts.specs.Zone.{part}
@@ -26,7 +26,7 @@ eitherOf c d z = all c z || all d z
 
 -- a record of another length than 120 is none
 abbrev pub noRecord : Look
-noRecord = record { unknown = true; kind = 7; misfit = true; undated = true; day = 0; amount = pos 0; mmo = false }
+noRecord = record { unknown = true; kind = 7; misfit = true; undated = true; day = 0; amount = pos 0; mmo = false; permitted = false }
 
 unfoldable pub lookOf : List ℕ → Look
 lookOf b =
@@ -39,5 +39,6 @@ lookOf b =
       day = dateIn b;
       amount = amountIn b;
       mmo = isMmo (part 46 118 b);
+      permitted = all permitted b;
     })
     noRecord

@@ -2,7 +2,8 @@
 ghost use mathlib.Core.Path.{_≡_};
 ghost use mathlib.Core.List.{_∷_, []};
 ghost use lib.ListN.{length};
-ghost use Rattle.zones.specs.Class.{digit, blank, permitted, alnum};
+ghost use Rattle.zones.specs.Class.{digit, blank, permitted, alnum, all};
+ghost use mathlib.Core.Bool.Bool.{true};
 ghost use Rattle.zones.specs.Copy.{sameBytes};
 ghost use Rattle.amounts.specs.Amounts.{isAmount};
 ghost use Rattle.dates.specs.Days.{dateOf};
@@ -25,6 +26,7 @@ pub struct Look {
     pub day: u32,
     pub amount: i64,
     pub mmo: bool,
+    pub permitted: bool,
 }
 
 fn is_code(r: &[u8], second: u8) -> bool
@@ -146,30 +148,41 @@ fn digits_or_blanks(s: &[u8]) -> bool
     zones::digits(s) | zones::blanks(s)
 }
 
-fn movement_zones(r: &[u8], amount: bool) -> bool
-    requires { ⌜ (length (now r) ≡ recordSize) × (amount ≡ isAmount (part 91 104 (now r))) ⌝ }
+// Whether the bytes of a text are permitted. Where all of its record's are, they are not looked at again.
+fn text_permitted(s: &[u8], clean: bool) -> bool
+    requires { ⌜ (clean ≡ true → all permitted (now s) ≡ true) ⌝ }
+    ensures { λ t. ⌜ t ≡ all permitted (now (s .entry)) ⌝ }
+{
+    if clean {
+        return true;
+    }
+    zones::permitted(s)
+}
+
+fn movement_zones(r: &[u8], amount: bool, clean: bool) -> bool
+    requires { ⌜ (length (now r) ≡ recordSize) × (amount ≡ isAmount (part 91 104 (now r))) × (clean ≡ all permitted (now r)) ⌝ }
     ensures { λ t. ⌜ t ≡ run zoned layout04 (now (r .entry)) ⌝ }
 {
     movement_front(r)
         & digits_or_blanks(&r[40..42])
         & zones::digits(&r[42..48])
-        & zones::permitted(&r[48..79])
+        & text_permitted(&r[48..79], clean)
         & zones::blanks(&r[79..81])
         & zones::digits(&r[81..88])
         & zones::flags(&r[88..89])
         & zones::flags(&r[89..90])
         & amount
-        & zones::permitted(&r[104..120])
+        & text_permitted(&r[104..120], clean)
 }
 
-fn plain_zones(r: &[u8]) -> bool
-    requires { ⌜ length (now r) ≡ recordSize ⌝ }
+fn plain_zones(r: &[u8], clean: bool) -> bool
+    requires { ⌜ (length (now r) ≡ recordSize) × (clean ≡ all permitted (now r)) ⌝ }
     ensures { λ t. ⌜ t ≡ run zoned layout05 (now (r .entry)) ⌝ }
 {
     movement_front(r)
         & zones::blanks(&r[40..45])
         & zones::alnums(&r[45..48])
-        & zones::permitted(&r[48..118])
+        & text_permitted(&r[48..118], clean)
         & zones::blanks(&r[118..120])
 }
 
@@ -187,12 +200,12 @@ fn mmo_zones(r: &[u8]) -> bool
 }
 
 // 8: the zones of a record's own layout.
-fn zones_fit(r: &[u8], kind: u8, mmo: bool, amount: bool) -> bool
-    requires { ⌜ (length (now r) ≡ recordSize) × (kind ≡ kindOf (now r)) × (mmo ≡ isMmo (part 46 118 (now r))) × (amount ≡ isAmount (part 91 104 (now r))) ⌝ }
+fn zones_fit(r: &[u8], kind: u8, mmo: bool, amount: bool, clean: bool) -> bool
+    requires { ⌜ (length (now r) ≡ recordSize) × (kind ≡ kindOf (now r)) × (mmo ≡ isMmo (part 46 118 (now r))) × (amount ≡ isAmount (part 91 104 (now r))) × (clean ≡ all permitted (now r)) ⌝ }
     ensures { λ t. ⌜ t ≡ run zoned (layoutOf (now (r .entry))) (now (r .entry)) ⌝ }
 {
     if kind == 4 {
-        return movement_zones(r, amount);
+        return movement_zones(r, amount, clean);
     }
     if kind != 5 {
         return balance_zones(r, amount);
@@ -200,7 +213,7 @@ fn zones_fit(r: &[u8], kind: u8, mmo: bool, amount: bool) -> bool
     if mmo {
         return mmo_zones(r);
     }
-    plain_zones(r)
+    plain_zones(r, clean)
 }
 
 // 9: the date of every record, and the value date of a 04.
@@ -226,20 +239,23 @@ pub fn look_at(r: &[u8]) -> Look
             day: 0,
             amount: 0,
             mmo: false,
+            permitted: false,
         };
     }
     let kind = kind(r);
     let mmo = mmo(r);
     let date = dates::read(&r[34..40]);
     let amount = amounts::read(&r[90..104]);
+    let clean = zones::permitted(r);
     Look {
         unknown: unknown(r),
         kind,
-        misfit: !zones_fit(r, kind, mmo, has_value(amount)),
+        misfit: !zones_fit(r, kind, mmo, has_value(amount), clean),
         undated: !dates_fit(r, kind, is_date(date)),
         day: day_in(date),
         amount: value_in(amount),
         mmo,
+        permitted: clean,
     }
 }
 

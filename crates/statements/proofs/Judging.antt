@@ -13,6 +13,7 @@ use mir.Syntax.{w64}
 use mir.Val.{toZ, ofZ}
 use borrow.Author.Tests.{eq-eqb}
 use Rattle.zones.specs.Choice.{pick}
+use Rattle.zones.specs.Class.{permitted, all}
 use Rattle.zones.specs.Copy.{sameBytes}
 use Rattle.amounts.specs.Amounts.{mostAmount}
 use Rattle.amounts.proofs.Whole.{back}
@@ -39,11 +40,12 @@ pub record Told (b : List ℕ) (k : Look) : Type 0 where
   pub day : k .day ≡ dateIn b
   pub amount : k .amount ≡ amountIn b
   pub mmo : k .mmo ≡ isMmo (part 46 118 b)
+  pub permits : k .permitted ≡ all permitted b
 
 pub told : (b : List ℕ) (k : Look) → length b ≡ recordSize → k ≡ lookOf b → Told b k
 unfolding lookOf
 told b k l e =
-    let s : k ≡ record { unknown = unknownCode b; kind = kindOf b; misfit = misfit b; undated = undated b; day = dateIn b; amount = amountIn b; mmo = isMmo (part 46 118 b) } = e ∙ rw (eq-eqb (length b) recordSize l) in
+    let s : k ≡ record { unknown = unknownCode b; kind = kindOf b; misfit = misfit b; undated = undated b; day = dateIn b; amount = amountIn b; mmo = isMmo (part 46 118 b); permitted = all permitted b } = e ∙ rw (eq-eqb (length b) recordSize l) in
     record {
       unknown = ap (λ x. x .unknown) s;
       kind = ap (λ x. x .kind) s;
@@ -52,6 +54,7 @@ told b k l e =
       day = ap (λ x. x .day) s;
       amount = ap (λ x. x .amount) s;
       mmo = ap (λ x. x .mmo) s;
+      permits = ap (λ x. x .permitted) s;
     }
 
 -- the amount is small
@@ -62,7 +65,7 @@ pub look-small : (b : List ℕ) {k : Look} → k ≡ lookOf b → natAbs (k .amo
 unfolding lookOf
 look-small b {k} e = rw e (by (eqb (length b) recordSize))
   where
-    by : (t : Bool) → natAbs ((pick t (record { unknown = unknownCode b; kind = kindOf b; misfit = misfit b; undated = undated b; day = dateIn b; amount = amountIn b; mmo = isMmo (part 46 118 b) }) noRecord) .amount) ≤ mostAmount
+    by : (t : Bool) → natAbs ((pick t (record { unknown = unknownCode b; kind = kindOf b; misfit = misfit b; undated = undated b; day = dateIn b; amount = amountIn b; mmo = isMmo (part 46 118 b); permitted = all permitted b }) noRecord) .amount) ≤ mostAmount
     by true = amount-small (part 91 104 b)
     by false = omega arith
 

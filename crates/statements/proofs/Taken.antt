@@ -8,6 +8,7 @@ use lib.Dec.{eqb}
 use lib.ListN.{length}
 use lib.IntN.{natAbs, _+ℤ_}
 use borrow.Author.Tests.{eq-eqb, ne-eqb, leb-true}
+use Rattle.zones.specs.Class.{permitted, all}
 use Rattle.zones.specs.Choice.{pick}
 use Rattle.amounts.specs.Amounts.{mostAmount, hasAmount, amountOf}
 use Rattle.amounts.specs.declared.Amount.{Amount}
@@ -204,7 +205,7 @@ unfolding repeats
 repeats-own b l f e = ap (part 3 40) (sym (ap encodeRecord e) ∙ july-lawful .again b l f)
 
 module _ {at : ℕ} {file b : List ℕ} {p : Progress} {k : Look} (g : Good at file b p k) where
-  whole : lookOf b ≡ record { unknown = unknownCode b; kind = kindOf b; misfit = misfit b; undated = undated b; day = dateIn b; amount = amountIn b; mmo = isMmo (part 46 118 b) }
+  whole : lookOf b ≡ record { unknown = unknownCode b; kind = kindOf b; misfit = misfit b; undated = undated b; day = dateIn b; amount = amountIn b; mmo = isMmo (part 46 118 b); permitted = all permitted b }
   unfolding lookOf
   whole = rw (eq-eqb (length b) recordSize (g .wide))
 

@@ -163,7 +163,7 @@ impl Progress {
         if framing::wrong_end(form, &piece[120..]) {
             return 4;
         }
-        if !zones::permitted(&piece[0..120]) {
+        if !k.permitted {
             return 5;
         }
         if k.unknown {

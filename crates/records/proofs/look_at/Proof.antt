@@ -40,6 +40,9 @@ part-read-end-2 c = search needs
 read-requires-2 : tie.Need-read-requires-2
 read-requires-2 c κs = search needs
 
+permitted-requires : tie.Need-permitted-requires
+permitted-requires c κs = search needs
+
 unknown-requires : tie.Need-unknown-requires
 unknown-requires c κs = search needs
 
@@ -48,10 +51,11 @@ has-value-requires c κs = search needs
 
 zones-fit-requires : tie.Need-zones-fit-requires
 zones-fit-requires c κs = (
-  c .before .before .before .before .before .before .before .before .if1 .left,
-  c .before .before .before .before .before .before .before .kind .ensures,
-  c .before .before .before .before .before .before .mmo .ensures,
-  c .has-value .ensures ∙ ap hasValue (c .before .before .read2 .ensures .answer) ∙ value-amount _,
+  c .before .before .before .before .before .before .before .before .before .if1 .left,
+  c .before .before .before .before .before .before .before .before .kind .ensures,
+  c .before .before .before .before .before .before .before .mmo .ensures,
+  c .has-value .ensures ∙ ap hasValue (c .before .before .before .read2 .ensures .answer) ∙ value-amount _,
+  c .before .before .permitted .ensures .answer,
 )
 
 is-date-requires : tie.Need-is-date-requires
@@ -59,7 +63,7 @@ is-date-requires c κs = search needs
 
 dates-fit-requires : tie.Need-dates-fit-requires
 dates-fit-requires c κs =
-    (c .before .before .before .before .before .before .before .before .before .before .if1 .left, c .before .before .before .before .before .before .before .before .before .kind .ensures, c .is-date .ensures ∙ ap isDate (c .before .before .before .before .before .before .read .ensures .answer))
+    (c .before .before .before .before .before .before .before .before .before .before .before .if1 .left, c .before .before .before .before .before .before .before .before .before .before .kind .ensures, c .is-date .ensures ∙ ap isDate (c .before .before .before .before .before .before .before .read .ensures .answer))
 
 day-in-requires : tie.Need-day-in-requires
 day-in-requires c κs = search needs
@@ -72,10 +76,10 @@ returns-2 c =
     record {
       answer =
           rw (toZ-ofZ (sfits-of (c .value-in .ok)))
-          (looked (c .before .before .before .before .before .before .before .before .before .before .before .before .before .before .before .args .r .now) (c .before .before .before .before .before .before .before .before .before .before .before .before .before .if1 .left)
-          (c .before .before .before .before .before .before .unknown .ensures) (c .before .before .before .before .before .before .before .before .before .before .before .before .kind .ensures) (c .before .before .before .before .zones-fit .ensures) (c .before .before .dates-fit .ensures)
-          (c .before .day-in .ensures ∙ ap dayIn (c .before .before .before .before .before .before .before .before .before .read .ensures .answer))
-          (c .value-in .ensures ∙ ap valueIn (c .before .before .before .before .before .before .before .read2 .ensures .answer)) (c .before .before .before .before .before .before .before .before .before .before .before .mmo .ensures));
+          (looked (c .before .before .before .before .before .before .before .before .before .before .before .before .before .before .before .before .args .r .now) (c .before .before .before .before .before .before .before .before .before .before .before .before .before .before .if1 .left)
+          (c .before .before .before .before .before .before .unknown .ensures) (c .before .before .before .before .before .before .before .before .before .before .before .before .before .kind .ensures) (c .before .before .before .before .zones-fit .ensures) (c .before .before .dates-fit .ensures)
+          (c .before .day-in .ensures ∙ ap dayIn (c .before .before .before .before .before .before .before .before .before .before .read .ensures .answer))
+          (c .value-in .ensures ∙ ap valueIn (c .before .before .before .before .before .before .before .before .read2 .ensures .answer)) (c .before .before .before .before .before .before .before .before .before .before .before .before .mmo .ensures) (c .before .before .before .before .before .before .before .permitted .ensures .answer));
     }
 
 pub look-at-spec : {M : Type 1} → statement M
@@ -93,6 +97,7 @@ look-at-spec =
     part-read-start-2
     part-read-end-2
     read-requires-2
+    permitted-requires
     unknown-requires
     has-value-requires
     zones-fit-requires

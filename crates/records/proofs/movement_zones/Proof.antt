@@ -1,3 +1,4 @@
+use Rattle.records.proofs.Looking.{part-permitted}
 use Rattle.zones.proofs.Bools.{conj}
 use borrow.Author.Needs.{needs}
 use Rattle.records.proofs.movement_zones.Statement.{statement}
@@ -30,17 +31,17 @@ part-digits-end c = search needs
 digits-requires : tie.Need-digits-requires
 digits-requires c κs = search needs
 
-sub-permitted : tie.Need-sub-permitted
-sub-permitted c = search needs
+sub-text-permitted : tie.Need-sub-text-permitted
+sub-text-permitted c = search needs
 
-part-permitted-start : tie.Need-part-permitted-start
-part-permitted-start c = search needs
+part-text-permitted-start : tie.Need-part-text-permitted-start
+part-text-permitted-start c = search needs
 
-part-permitted-end : tie.Need-part-permitted-end
-part-permitted-end c = search needs
+part-text-permitted-end : tie.Need-part-text-permitted-end
+part-text-permitted-end c = search needs
 
-permitted-requires : tie.Need-permitted-requires
-permitted-requires c κs = search needs
+text-permitted-requires : tie.Need-text-permitted-requires
+text-permitted-requires c κs = part-permitted 31 48 (c .before .before .before .before .before .before .before .args .r .now) (c .before .before .before .before .before .before .before .pre .2)
 
 sub-blanks : tie.Need-sub-blanks
 sub-blanks c = search needs
@@ -90,20 +91,20 @@ part-flags-end-2 c = search needs
 flags-requires-2 : tie.Need-flags-requires-2
 flags-requires-2 c κs = search needs
 
-sub-permitted-2 : tie.Need-sub-permitted-2
-sub-permitted-2 c = search needs
+sub-text-permitted-2 : tie.Need-sub-text-permitted-2
+sub-text-permitted-2 c = search needs
 
-part-permitted-start-2 : tie.Need-part-permitted-start-2
-part-permitted-start-2 c = search needs
+part-text-permitted-start-2 : tie.Need-part-text-permitted-start-2
+part-text-permitted-start-2 c = search needs
 
-part-permitted-end-2 : tie.Need-part-permitted-end-2
-part-permitted-end-2 c = search needs
+part-text-permitted-end-2 : tie.Need-part-text-permitted-end-2
+part-text-permitted-end-2 c = search needs
 
-permitted-requires-2 : tie.Need-permitted-requires-2
-permitted-requires-2 c κs = search needs
+text-permitted-requires-2 : tie.Need-text-permitted-requires-2
+text-permitted-requires-2 c κs = part-permitted 16 104 (c .before .before .before .before .before .before .before .before .before .before .before .before .before .before .before .before .before .args .r .now) (c .before .before .before .before .before .before .before .before .before .before .before .before .before .before .before .before .before .pre .2)
 
 returns : tie.Need-returns
-returns c = conj (conj (conj (conj (conj (conj (conj (conj (conj (c .before .before .before .before .before .before .before .before .before .before .before .before .before .before .before .before .movement-front .ensures) (c .before .before .before .before .before .before .before .before .before .before .before .before .before .before .digits-or-blanks .ensures)) (c .before .before .before .before .before .before .before .before .before .before .before .before .digits .ensures .answer)) (c .before .before .before .before .before .before .before .before .before .before .permitted .ensures .answer)) (c .before .before .before .before .before .before .before .before .blanks .ensures .answer)) (c .before .before .before .before .before .before .digits2 .ensures .answer)) (c .before .before .before .before .flags .ensures .answer)) (c .before .before .flags2 .ensures .answer)) (c .before .before .before .before .before .before .before .before .before .before .before .before .before .before .before .before .before .before .pre .1)) (c .permitted2 .ensures .answer)
+returns c = conj (conj (conj (conj (conj (conj (conj (conj (conj (c .before .before .before .before .before .before .before .before .before .before .before .before .before .before .before .before .movement-front .ensures) (c .before .before .before .before .before .before .before .before .before .before .before .before .before .before .digits-or-blanks .ensures)) (c .before .before .before .before .before .before .before .before .before .before .before .before .digits .ensures .answer)) (c .before .before .before .before .before .before .before .before .before .before .text-permitted .ensures)) (c .before .before .before .before .before .before .before .before .blanks .ensures .answer)) (c .before .before .before .before .before .before .digits2 .ensures .answer)) (c .before .before .before .before .flags .ensures .answer)) (c .before .before .flags2 .ensures .answer)) (c .before .before .before .before .before .before .before .before .before .before .before .before .before .before .before .before .before .before .pre .1)) (c .text-permitted2 .ensures)
 
 pub movement-zones-spec : {M : Type 1} → statement M
 movement-zones-spec =
@@ -118,10 +119,10 @@ movement-zones-spec =
     part-digits-start
     part-digits-end
     digits-requires
-    sub-permitted
-    part-permitted-start
-    part-permitted-end
-    permitted-requires
+    sub-text-permitted
+    part-text-permitted-start
+    part-text-permitted-end
+    text-permitted-requires
     sub-blanks
     part-blanks-start
     part-blanks-end
@@ -138,8 +139,8 @@ movement-zones-spec =
     part-flags-start-2
     part-flags-end-2
     flags-requires-2
-    sub-permitted-2
-    part-permitted-start-2
-    part-permitted-end-2
-    permitted-requires-2
+    sub-text-permitted-2
+    part-text-permitted-start-2
+    part-text-permitted-end-2
+    text-permitted-requires-2
     returns)

@@ -1,3 +1,4 @@
+use Rattle.records.proofs.Looking.{part-permitted}
 use Rattle.zones.proofs.Bools.{conj}
 use borrow.Author.Needs.{needs}
 use Rattle.records.proofs.plain_zones.Statement.{statement}
@@ -30,17 +31,17 @@ part-alnums-end c = search needs
 alnums-requires : tie.Need-alnums-requires
 alnums-requires c κs = search needs
 
-sub-permitted : tie.Need-sub-permitted
-sub-permitted c = search needs
+sub-text-permitted : tie.Need-sub-text-permitted
+sub-text-permitted c = search needs
 
-part-permitted-start : tie.Need-part-permitted-start
-part-permitted-start c = search needs
+part-text-permitted-start : tie.Need-part-text-permitted-start
+part-text-permitted-start c = search needs
 
-part-permitted-end : tie.Need-part-permitted-end
-part-permitted-end c = search needs
+part-text-permitted-end : tie.Need-part-text-permitted-end
+part-text-permitted-end c = search needs
 
-permitted-requires : tie.Need-permitted-requires
-permitted-requires c κs = search needs
+text-permitted-requires : tie.Need-text-permitted-requires
+text-permitted-requires c κs = part-permitted 70 48 (c .before .before .before .before .before .before .before .args .r .now) (c .before .before .before .before .before .before .before .pre .1)
 
 sub-blanks-2 : tie.Need-sub-blanks-2
 sub-blanks-2 c = search needs
@@ -55,7 +56,7 @@ blanks-requires-2 : tie.Need-blanks-requires-2
 blanks-requires-2 c κs = search needs
 
 returns : tie.Need-returns
-returns c = conj (conj (conj (conj (c .before .before .before .before .before .before .before .before .movement-front .ensures) (c .before .before .before .before .before .before .blanks .ensures .answer)) (c .before .before .before .before .alnums .ensures .answer)) (c .before .before .permitted .ensures .answer)) (c .blanks2 .ensures .answer)
+returns c = conj (conj (conj (conj (c .before .before .before .before .before .before .before .before .movement-front .ensures) (c .before .before .before .before .before .before .blanks .ensures .answer)) (c .before .before .before .before .alnums .ensures .answer)) (c .before .before .text-permitted .ensures)) (c .blanks2 .ensures .answer)
 
 pub plain-zones-spec : {M : Type 1} → statement M
 plain-zones-spec =
@@ -70,10 +71,10 @@ plain-zones-spec =
     part-alnums-start
     part-alnums-end
     alnums-requires
-    sub-permitted
-    part-permitted-start
-    part-permitted-end
-    permitted-requires
+    sub-text-permitted
+    part-text-permitted-start
+    part-text-permitted-end
+    text-permitted-requires
     sub-blanks-2
     part-blanks-start-2
     part-blanks-end-2
