@@ -2,14 +2,14 @@
 use mathlib.Core.Path.{_≡_, refl, sym, ap, ap₂, _∙_}
 use mathlib.Core.Bool.{true, false}
 use mathlib.Core.List.{List, [], _∷_, map, append-nil}
-use Prim.Native.Nat.{ℕ, suc, _*_, _≤_}
+use Prim.Native.Nat.{ℕ, _*_, _≤_}
 use native.Mathlib.Omega.{arith}
 use lib.Dec.{eqb}
-use lib.ListN.{length, getD}
+use lib.ListN.{length, length-map, getD}
 use borrow.Author.Tests.{eqb-true}
 use Rattle.zones.specs.Pieces.{flat}
 use Rattle.framing.specs.declared.Form.{Form}
-use Rattle.framing.specs.Files.{endOf, widthOf, fileOf}
+use Rattle.framing.specs.Files.{endOf, widthOf, pieceOf, fileOf}
 use Rattle.framing.proofs.Cuts.{length-flat}
 use Rattle.grammar.specs.Answer.{Answer, accepted, refused}
 use Rattle.grammar.specs.Record.{Rec}
@@ -99,11 +99,7 @@ module _ {s : Statement} (w : Writable july s) where
       let rs = recordsOf july2004 s in
       ap (λ l. length (flat l)) (kept-all rs)
       ∙ length-flat recordSize (piecesFor july plain rs) (wide-pieces july plain july-lawful refl rs (w .ok))
-      ∙ ap (λ (n : ℕ). n * recordSize) (length-map rs ∙ length-one july2004 s)
-    where
-      length-map : (rs : List Rec) → length (piecesFor july plain rs) ≡ length rs
-      length-map [] = refl
-      length-map (r ∷ rs) = ap suc (length-map rs)
+      ∙ ap (λ (n : ℕ). n * recordSize) (length-map (map encodeRecord rs) (pieceOf plain) ∙ length-map rs encodeRecord ∙ length-one july2004 s)
 
   -- a statement has two records at least
   pub size-most : sizeOf s ≤ mostInStatement

@@ -5,7 +5,7 @@ use mathlib.Core.List.{List, [], _∷_, _++_, map}
 use Prim.Native.Nat.{ℕ, _+_, _-_, _<_, _≤_}
 use native.Mathlib.Omega.{arith}
 use lib.Dec.{eqb, leb, ltb}
-use lib.ListN.{length, take, getD, length-append}
+use lib.ListN.{length-map, length, take, getD, length-append}
 use borrow.Author.Tests.{eqb-true, ltb-true, ltb-false}
 use Rattle.zones.specs.Choice.{pick}
 use Rattle.zones.proofs.Bools.{and-left, and-right}
@@ -64,10 +64,6 @@ tally-most (movement k p ∷ rs) = let h = tally-most rs in omega arith
 tally-most (complement e t ∷ rs) = let h = tally-most rs in omega arith
 tally-most (closing k d b ∷ rs) = let h = tally-most rs in omega arith
 
-length-map : {A B : Type 0} (f : A → B) (xs : List A) → length (map f xs) ≡ length xs
-length-map f [] = refl
-length-map f (x ∷ xs) = let h = length-map f xs in omega arith
-
 module _ (f : Form) (b : List ℕ) where
   count-pieces : length (pieces july f b) ≡ countOf recordSize f b
   count-pieces = length-chunks (widthOf recordSize f) (countOf recordSize f b) b
@@ -91,7 +87,7 @@ module _ (f : Form) (b : List ℕ) where
       let few = ltb-false mostInFile (countOf recordSize f b) r in
       let rs = map (recOf july) (pieces july f b) in
       let m = tally-most rs in
-      let l = length-map (recOf july) (pieces july f b) in
+      let l = length-map (pieces july f b) (recOf july) in
       rw e
       (record {
         few-statements = omega (arith, count-pieces);

@@ -1,11 +1,8 @@
 -- A key and a row from their fields.
-use mathlib.Core.Path.{_≡_, ap, _∙_}
+use mathlib.Core.Path.{_≡_}
 use mathlib.Core.List.{List}
 use Prim.Native.Nat.{ℕ}
-use native.Mathlib.Nat.{add-zero}
-use native.Mathlib.Omega.{arith}
-use lib.ListN.{length, take, drop, getD}
-use lib.Seq.{getD-take, getD-drop}
+use lib.ListN.{length, getD}
 use lib.IntN.{ℤ}
 use borrow.Author.Tests.{eq-eqb, ne-eqb}
 use Rattle.zones.specs.Number.{valueOf}
@@ -13,12 +10,10 @@ use Rattle.amounts.specs.Amounts.{amountOf}
 use Rattle.dates.specs.Days.{dateOf}
 use Rattle.layouts.specs.Zone.{part, dayIn, valueIn}
 use Rattle.grammar.specs.declared.Key.{Key}
+use Rattle.records.proofs.Compared.{byte-at}
 use Rattle.records.specs.July.{recordSize}
 use Rattle.fields.specs.declared.Movement.{Movement}
 use Rattle.fields.specs.Rows.{noKey, noRow, keyAtOf, rowAtOf}
-
-byte-at : (n : ℕ) (b : List ℕ) → getD (take 1 (drop n b)) 0 0 ≡ getD b n 0
-byte-at n b = getD-take 1 (drop n b) 0 0 (omega arith) ∙ (getD-drop n b 0 0 ∙ ap (λ k. getD b k 0) (add-zero n))
 
 pub no-key : (b : List ℕ) → (length b ≡ recordSize → ⊥) → noKey ≡ keyAtOf b
 unfolding keyAtOf

@@ -6,6 +6,7 @@ ghost use Rattle.zones.specs.Number.{valueOf};
 ghost use Rattle.dates.specs.Days.{dateOf};
 ghost use Rattle.amounts.specs.Amounts.{amountOf};
 ghost use Rattle.layouts.specs.Zone.{dayIn, valueIn};
+ghost use Rattle.fields.specs.Rows.{noRow};
 ghost use Rattle.fields.specs.Answers.{KeyAt, RowAt};
 use amounts::Amount;
 use dates::Date;
@@ -83,6 +84,25 @@ fn entry_number(s: &[u8]) -> u32
     zones::number(s) as u32
 }
 
+fn no_row() -> Movement
+    ensures { λ m. ⌜ m ≡ noRow ⌝ }
+{
+    Movement {
+        internal: [0u8; 4],
+        code: [0u8; 2],
+        booked: 0,
+        reject: [0u8; 2],
+        value: 0,
+        label: [0u8; 31],
+        entry: 0,
+        exempt: 0,
+        unavailable: 0,
+        amount: 0,
+        reference: [0u8; 16],
+        complements: 0,
+    }
+}
+
 // The row of a 04 with so many complements. A record of another length than 120 has none: every number and byte is 0.
 pub fn row_at(r: &[u8], complements: u64) -> Movement
     ensures { λ m. ⌜ RowAt (now (r .entry)) complements m ⌝ }
@@ -93,20 +113,7 @@ pub fn row_at(r: &[u8], complements: u64) -> Movement
     let mut label = [0u8; 31];
     let mut reference = [0u8; 16];
     if r.len() != 120 {
-        return Movement {
-            internal,
-            code,
-            booked: 0,
-            reject,
-            value: 0,
-            label,
-            entry: 0,
-            exempt: 0,
-            unavailable: 0,
-            amount: 0,
-            reference,
-            complements: 0,
-        };
+        return no_row();
     }
     zones::put(&mut internal, &r[7..11]);
     zones::put(&mut code, &r[32..34]);

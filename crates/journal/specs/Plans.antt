@@ -20,6 +20,7 @@ use Rattle.journal_layout.specs.Layout.{entryOf}
 use Rattle.journal_layout.specs.Test.{soundIn, heldOf, laterOf, judgedBy}
 use Rattle.journal.specs.Delivery.{Verdict, hold, store, refuse, isHeld, contentOf, outcomeOf}
 use Rattle.journal.specs.declared.Delivery.the-variants.{Done, Refused}
+use Rattle.journal_layout.specs.declared.Free.{Free}
 use Rattle.journal.specs.declared.Plan.{Plan}
 use Rattle.journal.specs.Answers.{answerOf}
 use Rattle.journal.specs.declared.Found.{Found}
@@ -92,6 +93,10 @@ pub record Accepts (f : Form) (b : List ℕ) : Type 0 where
   pub yes : checkOf july f b ≡ accepted counts
 
 -- the plan of a refusal
+abbrev pub donePlan : (count : ℕ) (places ends : List ℕ) → Free → (held : ℕ) → Plan
+donePlan count places ends free held =
+    record { count = count; places = places; ends = ends; entry = free .entry; line = free .line; answer = Done count held }
+
 abbrev pub refusedPlan : (number at : ℕ) → Plan
 refusedPlan n r =
     record { count = 0; places = replicate mostEntries 0; ends = replicate mostEntries 0; entry = 0; line = 0; answer = Refused n r }

@@ -17,9 +17,10 @@ ghost use Rattle.journal.specs.Delivery.{isHeld, verdictBy};
 ghost use Rattle.journal_layout.specs.Test.{soundIn, heldOf};
 ghost use Rattle.journal.specs.declared.Found.the-variants.{Refused};
 ghost use Rattle.journal.specs.Newest.{keySize, keyFrom, newestAmong, newestOf, isAccount, lastHeldFrom, lastPart};
-ghost use Rattle.journal.specs.Plans.{partsFrom, Inside, judgedIn, judgedAll, verdictNumber, Reading, written, writtenAll, Accepts, refusedPlan, Storable, Planned, Searchable, Finds};
+ghost use Rattle.journal.specs.Plans.{partsFrom, Inside, judgedIn, judgedAll, verdictNumber, Reading, written, writtenAll, Accepts, donePlan, refusedPlan, Storable, Planned, Searchable, Finds};
 ghost use Rattle.journal.specs.Answers.{Delivers, NewestPlace, NewestPart};
 use framing::Form;
+use journal_layout::Free;
 use journal_layout::Judgement;
 use statements::Checked;
 
@@ -152,6 +153,23 @@ fn refused_plan(number: u64, record: u64) -> Plan
     }
 }
 
+// The plan after the last statement.
+fn done_plan(count: usize, places: [u32; 128], ends: [u32; 128], free: Free, held: u64) -> Plan
+    ensures { λ r. ⌜ r ≡ donePlan count places ends free held ⌝ }
+{
+    Plan {
+        count,
+        places,
+        ends,
+        entry: free.entry,
+        line: free.line,
+        answer: Delivery::Done {
+            stored: count as u64,
+            held,
+        },
+    }
+}
+
 // The statements of an accepted file in turn, on what a sound journal holds and what is planned so far.
 fn dry_run(journal: &[u8], form: Form, file: &[u8]) -> Plan
     requires { ⌜ (soundIn (now journal) ≡ true) × Accepts form (now file) ⌝ }
@@ -191,17 +209,7 @@ fn dry_run(journal: &[u8], form: Form, file: &[u8]) -> Plan
         }
         at = end;
     }
-    Plan {
-        count,
-        places,
-        ends,
-        entry: free.entry,
-        line: free.line,
-        answer: Delivery::Done {
-            stored: count as u64,
-            held,
-        },
-    }
+    done_plan(count, places, ends, free, held)
 }
 
 // One statement into an entry and the lines from a line on. Its number of records.
@@ -338,6 +346,15 @@ fn last_planned(file: &[u8], places: &[u32], ends: &[u32], count: usize, key: &[
     last
 }
 
+fn none_found() -> Found
+    ensures { λ r. ⌜ r ≡ Refused 25 0 ⌝ }
+{
+    Found::Refused {
+        number: 25,
+        record: 0,
+    }
+}
+
 // The newest among planned and held statements.
 fn newest_planned(
     journal: &[u8],
@@ -353,10 +370,7 @@ fn newest_planned(
     ensures { λ r. ⌜ Finds (pick (eqb (length (now (key .entry))) keySize) (newestAmong form (keyFrom (now (key .entry))) (heldOf (now (journal .entry))) (statementsOf july form (now (file .entry)))) (Refused 25 0)) (now (journal .entry)) (now (file .entry)) r ⌝ }
 {
     if key.len() != 25 {
-        return Found::Refused {
-            number: 25,
-            record: 0,
-        };
+        return none_found();
     }
     let p = last_planned(file, places, ends, count, key);
     if 0 < p {
@@ -370,10 +384,7 @@ fn newest_planned(
     }
     let e = last_held(journal, held, key);
     if e == 0 {
-        return Found::Refused {
-            number: 25,
-            record: 0,
-        };
+        return none_found();
     }
     let x = entries::entry_at(journal, e - 1);
     Found::InJournal {

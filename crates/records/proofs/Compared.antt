@@ -17,7 +17,7 @@ use Rattle.grammar.specs.Record.{sameKey, sameAmount}
 use Rattle.records.specs.July.{recordSize}
 use Rattle.records.specs.Tests.{sameKeyIn, sameFrontIn}
 
-byte-at : (n : ℕ) (b : List ℕ) → getD (take 1 (drop n b)) 0 0 ≡ getD b n 0
+pub byte-at : (n : ℕ) (b : List ℕ) → getD (take 1 (drop n b)) 0 0 ≡ getD b n 0
 byte-at n b = getD-take 1 (drop n b) 0 0 (omega arith) ∙ (getD-drop n b 0 0 ∙ ap (λ k. getD b k 0) (add-zero n))
 
 module _ (a b : List ℕ) where

@@ -11,11 +11,12 @@ ghost use Rattle.grammar.specs.Rules.{start, differs as differsOf};
 ghost use Rattle.grammar.specs.Files.{files};
 ghost use Rattle.records.specs.July.{july, mostInFile, recordSize, decodeRecord};
 ghost use Rattle.records.specs.Looks.{kindOf, lookOf};
-ghost use Rattle.statements.specs.Progress.{Small, openedOf, movedOf, addedOf, closedOf, modeOf, flagsOf, stateOf, nextOf, begin, Inside, Fit, Sized};
+ghost use Rattle.statements.specs.Progress.{Small, openedOf, movedOf, addedOf, closedOf, modeOf, flagsOf, stateOf, afterMovement, nextOf, begin, Inside, Fit, Sized};
 ghost use Rattle.statements.specs.Answers.{checkedOf, Check};
 use framing::Form;
 use framing::Frame;
 use records::Look;
+use records::rules;
 
 // What a file holds, or the number and the record of its refusal.
 pub enum Checked {
@@ -169,7 +170,7 @@ impl Progress {
         if k.unknown {
             return 6;
         }
-        if records::rules::misplaced(self.size, self.movement, k.kind) {
+        if rules::misplaced(self.size, self.movement, k.kind) {
             return 7;
         }
         if k.misfit {
@@ -181,23 +182,38 @@ impl Progress {
         if self.differs(file, &piece[0..120], k.kind) {
             return 10;
         }
-        if records::rules::second_mmo(self.size, self.movement, k.kind, k.mmo) {
+        if rules::second_mmo(self.size, self.movement, k.kind, k.mmo) {
             return 11;
         }
-        if records::rules::misdated(self.size, k.kind, k.day, self.old, self.latest) {
+        if rules::misdated(self.size, k.kind, k.day, self.old, self.latest) {
             return 12;
         }
-        if records::rules::unsummed(
+        if rules::unsummed(
             self.size,
             k.kind,
-            records::rules::same_balance(self.totals.balance, k.amount),
+            rules::same_balance(self.totals.balance, k.amount),
         ) {
             return 13;
         }
-        if records::rules::too_long(self.size) {
+        if rules::too_long(self.size) {
             return 15;
         }
         0
+    }
+
+    fn after_movement(self, at: usize, k: Look) -> Progress
+        requires { ⌜ Small mostInFile (self .totals) × (self .size ≤ mostInFile) × (natAbs (k .amount) ≤ mostAmount) ⌝ }
+        ensures { λ r. ⌜ r ≡ afterMovement self at k ⌝ }
+    {
+        Progress {
+            opening: self.opening,
+            mark: at,
+            size: self.size + 1,
+            movement: 1,
+            old: self.old,
+            latest: later(self.latest, k.day),
+            totals: self.totals.moved(k.amount),
+        }
     }
 
     // What is kept after a record to which no rule applies.
@@ -217,15 +233,7 @@ impl Progress {
             };
         }
         if k.kind == 4 {
-            return Progress {
-                opening: self.opening,
-                mark: at,
-                size: self.size + 1,
-                movement: 1,
-                old: self.old,
-                latest: later(self.latest, k.day),
-                totals: self.totals.moved(k.amount),
-            };
+            return self.after_movement(at, k);
         }
         if k.kind == 5 {
             return Progress {

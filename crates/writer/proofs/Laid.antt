@@ -5,7 +5,7 @@ use mathlib.Core.List.{List, [], _∷_, _++_, map, append-assoc}
 use Prim.Native.Nat.{ℕ, suc, _+_, _-_, _*_, _≤_}
 use native.Mathlib.Nat.{suc-mul, zero-mul, add-mul}
 use native.Mathlib.Omega.{arith}
-use lib.ListN.{length, take, drop, length-append, length-drop}
+use lib.ListN.{length, length-map, take, drop, length-append, length-drop}
 use lib.Seq.{take-at, drop-at, drop-drop, length-take-le, take-append-le, drop-append-le}
 use borrow.Author.Tests.{eq-eqb, le-leb}
 use Rattle.zones.specs.Pieces.{flat}
@@ -36,12 +36,8 @@ unfolding flat
 text-append [] ys = refl
 text-append (x ∷ xs) ys = ap (λ l. encodeRecord x ++ l) (text-append xs ys) ∙ sym (append-assoc (encodeRecord x) (text xs) (text ys))
 
-length-mapped : {A B : Type 0} (f : A → B) (xs : List A) → length (map f xs) ≡ length xs
-length-mapped f [] = refl
-length-mapped f (x ∷ xs) = ap suc (length-mapped f xs)
-
 pub length-text : (rs : List Rec) → All Holds rs → length (text rs) ≡ length rs * recordSize
-length-text rs o = length-flat recordSize (map encodeRecord rs) (all-map encodeRecord Holds (λ b. length b ≡ recordSize) (λ r p. july-lawful .wide r p) rs o) ∙ ap (λ (n : ℕ). n * recordSize) (length-mapped encodeRecord rs)
+length-text rs o = length-flat recordSize (map encodeRecord rs) (all-map encodeRecord Holds (λ b. length b ≡ recordSize) (λ r p. july-lawful .wide r p) rs o) ∙ ap (λ (n : ℕ). n * recordSize) (length-map rs encodeRecord)
 
 module _ (k : Key) (m : Movement) (o : movementHolds k m ≡ true) where
   abbrev e : List ℕ
@@ -78,7 +74,7 @@ length-group : (k : Key) (m : Movement) (ts : List (List ℕ)) → All Holds (re
 unfolding recordsOfMovement
 length-group k m ts o =
     let e = repeats k (postingOf m) in
-    let n : suc (length (map (complement e) ts)) ≡ 1 + length ts = omega (arith, length-mapped (complement e) ts) in
+    let n : suc (length (map (complement e) ts)) ≡ 1 + length ts = omega (arith, length-map ts (complement e)) in
     length-text (recordsOfMovement july2004 k (record { posting = postingOf m; complements = ts })) o ∙ ap (λ (z : ℕ). z * recordSize) n
 
 joined : (a g x c : List ℕ) → (a ++ g) ++ (x ++ c) ≡ a ++ ((g ++ x) ++ c)

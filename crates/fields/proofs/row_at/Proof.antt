@@ -1,3 +1,4 @@
+use mathlib.Core.Path.{_∙_}
 use mir.Facts.{toZ-ofZ}
 use Rattle.zones.proofs.Called.{put-whole}
 use Rattle.fields.proofs.Gathered.{no-row, row-is}
@@ -5,8 +6,11 @@ use borrow.Author.Needs.{needs, sfits-of}
 use Rattle.fields.proofs.row_at.Statement.{statement}
 use Rattle.fields.proofs.row_at.Tie as tie
 
+no-row-requires : tie.Need-no-row-requires
+no-row-requires c κs = search needs
+
 returns : tie.Need-returns
-returns c = record { answer = no-row _ _ (c .if1 .taken) }
+returns c = record { answer = c .no-row .ensures ∙ no-row _ _ (c .before .if1 .taken) }
 
 slice-aggregate-put : tie.Need-slice-aggregate-put
 slice-aggregate-put c = search needs
@@ -119,11 +123,11 @@ part-entry-number-end c = search needs
 entry-number-requires : tie.Need-entry-number-requires
 entry-number-requires c κs = search needs
 
-shared-slice-read-t60 : tie.Need-shared-slice-read-t60
-shared-slice-read-t60 c = search needs
+shared-slice-read-t55 : tie.Need-shared-slice-read-t55
+shared-slice-read-t55 c = search needs
 
-shared-slice-read-t62 : tie.Need-shared-slice-read-t62
-shared-slice-read-t62 c = search needs
+shared-slice-read-t57 : tie.Need-shared-slice-read-t57
+shared-slice-read-t57 c = search needs
 
 sub-amount : tie.Need-sub-amount
 sub-amount c = search needs
@@ -156,6 +160,7 @@ pub row-at-spec : {M : Type 1} → statement M
 row-at-spec =
     tie.close
     (tie.spec
+    no-row-requires
     returns
     slice-aggregate-put
     sub-put
@@ -194,8 +199,8 @@ row-at-spec =
     part-entry-number-start
     part-entry-number-end
     entry-number-requires
-    shared-slice-read-t60
-    shared-slice-read-t62
+    shared-slice-read-t55
+    shared-slice-read-t57
     sub-amount
     part-amount-start
     part-amount-end

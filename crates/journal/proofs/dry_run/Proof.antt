@@ -222,10 +222,13 @@ loop-again-2 c =
     let v = verdict-there (c .before .before .before .before .before .before .before .before .before .before .before .before .before .before .before .args .journal .now) (c .before .before .before .before .before .before .before .before .before .before .before .before .before .before .before .args .form) (c .before .before .before .before .before .before .before .before .before .before .before .before .before .before .before .args .file .now) (c .before .before .before .before .before .before .before .before .before .before .before .before .before .before .before .pre .0) (c .before .before .before .before .before .before .before .before .before .before .before .before .before .before .before .pre .1) (c .before .before .before .before .before .before .before .before .before .before .before .loop .inv) t (e .0) (c .before .before .before .before .before .judged-all .ensures) (c .before .before .before .before .record-at .ensures .answer) (c .before .before .verdict .ensures) in
     held-there (c .before .before .before .before .before .before .before .before .before .before .before .before .before .before .before .args .journal .now) (c .before .before .before .before .before .before .before .before .before .before .before .before .before .before .before .args .form) (c .before .before .before .before .before .before .before .before .before .before .before .before .before .before .before .args .file .now) (c .before .before .before .before .before .before .before .before .before .before .before .before .before .before .before .pre .0) (c .before .before .before .before .before .before .before .before .before .before .before .before .before .before .before .pre .1) (c .before .before .before .before .before .before .before .before .before .before .before .loop .inv) t v (omega (arith, c .before .if1 .left, c .if2 .left))
 
+done-plan-requires : tie.Need-done-plan-requires Inv-loop μ-loop
+done-plan-requires c κs = search needs
+
 returns-2 : tie.Need-returns-2 Inv-loop μ-loop
 returns-2 c =
-    let e = free-there (c .before .before .before .before .before .args .journal .now) (c .before .before .before .before .before .args .form) (c .before .before .before .before .before .args .file .now) (c .before .before .before .before .before .pre .0) (c .before .before .before .before .before .pre .1) (c .before .before .first-free .ensures .answer) in
-    rw (e .0, e .1) (ends-there (c .before .before .before .before .before .args .journal .now) (c .before .before .before .before .before .args .form) (c .before .before .before .before .before .args .file .now) (c .before .before .before .before .before .pre .0) (c .before .before .before .before .before .pre .1) (c .before .loop .inv) (c .loop-test .left))
+    let e = free-there (c .before .before .before .before .before .before .args .journal .now) (c .before .before .before .before .before .before .args .form) (c .before .before .before .before .before .before .args .file .now) (c .before .before .before .before .before .before .pre .0) (c .before .before .before .before .before .before .pre .1) (c .before .before .before .first-free .ensures .answer) in
+    rw (c .done-plan .ensures, e .0, e .1) (ends-there (c .before .before .before .before .before .before .args .journal .now) (c .before .before .before .before .before .before .args .form) (c .before .before .before .before .before .before .args .file .now) (c .before .before .before .before .before .before .pre .0) (c .before .before .before .before .before .before .pre .1) (c .before .before .loop .inv) (c .before .loop-test .left))
 
 pub dry-run-spec : {M : Type 1} → statement M
 dry-run-spec =
@@ -267,4 +270,5 @@ dry-run-spec =
     loop-again
     loop-less-2
     loop-again-2
+    done-plan-requires
     returns-2)

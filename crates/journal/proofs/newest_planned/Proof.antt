@@ -6,8 +6,11 @@ use borrow.Author.Needs.{needs}
 use Rattle.journal.proofs.newest_planned.Statement.{statement}
 use Rattle.journal.proofs.newest_planned.Tie as tie
 
+none-found-requires : tie.Need-none-found-requires
+none-found-requires c κs = search needs
+
 returns : tie.Need-returns
-returns c = sizeless (c .before .before .before .before .before .before .pre) (c .before .before .before .before .before .before .args .key .now) (c .if1 .taken)
+returns c = rw (c .none-found .ensures) (sizeless (c .before .before .before .before .before .before .before .pre) (c .before .before .before .before .before .before .before .args .key .now) (c .before .if1 .taken))
 
 last-planned-requires : tie.Need-last-planned-requires
 last-planned-requires c κs = let w = c .before .before .before .before .before .before .pre in (c .if1 .left, w .named .0, w .named .1, w .inside)
@@ -77,8 +80,11 @@ returns-2 c = found-file (c .before .before .before .before .before .before .bef
 last-held-requires : tie.Need-last-held-requires
 last-held-requires c κs = c .before .before .if1 .left
 
+none-found-requires-2 : tie.Need-none-found-requires-2
+none-found-requires-2 c κs = search needs
+
 returns-3 : tie.Need-returns-3
-returns-3 c = found-nowhere (c .before .before .before .before .before .before .before .before .before .before .pre) (c .before .before .before .before .before .before .before .before .before .before .args .key .now) (c .before .before .before .before .if1 .left) (c .before .before .before .last-planned .ensures) (c .before .before .if2 .left) (c .before .last-held .ensures) (c .if3 .taken)
+returns-3 c = rw (c .none-found2 .ensures) (found-nowhere (c .before .before .before .before .before .before .before .before .before .before .before .pre) (c .before .before .before .before .before .before .before .before .before .before .before .args .key .now) (c .before .before .before .before .before .if1 .left) (c .before .before .before .before .last-planned .ensures) (c .before .before .before .if2 .left) (c .before .before .last-held .ensures) (c .before .if3 .taken))
 
 sub-entry-at : tie.Need-sub-entry-at
 sub-entry-at c = search needs
@@ -102,6 +108,7 @@ pub newest-planned-spec : {M : Type 1} → statement M
 newest-planned-spec =
     tie.close
     (tie.spec
+    none-found-requires
     returns
     last-planned-requires
     sub-first
@@ -115,6 +122,7 @@ newest-planned-spec =
     sub-t16
     returns-2
     last-held-requires
+    none-found-requires-2
     returns-3
     sub-entry-at
     entry-at-requires

@@ -13,21 +13,15 @@ returns : tie.Need-returns
 unfolding nextOf
 returns c = rw (eq-eqb _ 1 (c .before .before .if1 .taken), c .opened .ensures) (rw (back (c .before .before .before .before .args .k .amount) (omega (arith, c .before .before .before .before .pre .2))))
 
-add-t6 : tie.Need-add-t6
-add-t6 c = search needs
-
-later-requires : tie.Need-later-requires
-later-requires c κs = search needs
-
-moved-requires : tie.Need-moved-requires
-moved-requires c κs = search needs
+after-movement-requires : tie.Need-after-movement-requires
+after-movement-requires c κs = search needs
 
 returns-2 : tie.Need-returns-2
 unfolding nextOf
-returns-2 c = rw (ne-eqb _ 1 (c .before .before .before .before .before .before .if1 .left), eq-eqb _ 4 (c .before .before .before .before .if2 .taken), c .before .before .later .ensures, c .moved .ensures) (rw (back (c .before .before .before .before .before .before .before .before .args .k .amount) (omega (arith, c .before .before .before .before .before .before .before .before .pre .2))))
+returns-2 c = rw (ne-eqb _ 1 (c .before .before .before .if1 .left), eq-eqb _ 4 (c .before .if2 .taken)) (c .after-movement .ensures)
 
-add-t9 : tie.Need-add-t9
-add-t9 c = search needs
+add-t6 : tie.Need-add-t6
+add-t6 c = search needs
 
 seen-requires : tie.Need-seen-requires
 seen-requires c κs = search needs
@@ -52,11 +46,9 @@ taken-spec =
     (tie.spec
     opened-requires
     returns
-    add-t6
-    later-requires
-    moved-requires
+    after-movement-requires
     returns-2
-    add-t9
+    add-t6
     seen-requires
     added-requires
     returns-3
