@@ -84,6 +84,7 @@ fn entry_number(s: &[u8]) -> u32
     zones::number(s) as u32
 }
 
+// What stands where there is no record.
 fn no_row() -> Movement
     ensures { λ m. ⌜ m ≡ noRow ⌝ }
 {

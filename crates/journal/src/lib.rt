@@ -305,6 +305,7 @@ fn is_account(key: &[u8], opening: &[u8]) -> bool
                 & ((opening[19] == key[13]) & zones::same(&opening[21..32], &key[14..25]))))
 }
 
+// One of two places. A loop keeps the last that passed by it, with no branch of its own.
 fn chosen(yes: bool, a: usize, b: usize) -> usize
     ensures { λ r. ⌜ r ≡ pick yes a b ⌝ }
 {
@@ -346,6 +347,7 @@ fn last_planned(file: &[u8], places: &[u32], ends: &[u32], count: usize, key: &[
     last
 }
 
+// 25: the account has no statement, or the key is none.
 fn none_found() -> Found
     ensures { λ r. ⌜ r ≡ Refused 25 0 ⌝ }
 {
