@@ -188,11 +188,8 @@ impl Progress {
         if rules::misdated(self.size, k.kind, k.day, self.old, self.latest) {
             return 12;
         }
-        if rules::unsummed(
-            self.size,
-            k.kind,
-            rules::same_balance(self.totals.balance, k.amount),
-        ) {
+        let right = rules::same_balance(self.totals.balance, k.amount);
+        if rules::unsummed(self.size, k.kind, right) {
             return 13;
         }
         if rules::too_long(self.size) {
