@@ -92,11 +92,12 @@ pub record Accepts (f : Form) (b : List ℕ) : Type 0 where
   pub counts : Counts
   pub yes : checkOf july f b ≡ accepted counts
 
--- the plan of a refusal
+-- the plan after the last statement
 abbrev pub donePlan : (count : ℕ) (places ends : List ℕ) → Free → (held : ℕ) → Plan
 donePlan count places ends free held =
     record { count = count; places = places; ends = ends; entry = free .entry; line = free .line; answer = Done count held }
 
+-- the plan of a refusal
 abbrev pub refusedPlan : (number at : ℕ) → Plan
 refusedPlan n r =
     record { count = 0; places = replicate mostEntries 0; ends = replicate mostEntries 0; entry = 0; line = 0; answer = Refused n r }

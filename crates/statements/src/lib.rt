@@ -198,6 +198,7 @@ impl Progress {
         0
     }
 
+    // What is kept after a 04.
     fn after_movement(self, at: usize, k: Look) -> Progress
         requires { ⌜ Small mostInFile (self .totals) × (self .size ≤ mostInFile) × (natAbs (k .amount) ≤ mostAmount) ⌝ }
         ensures { λ r. ⌜ r ≡ afterMovement self at k ⌝ }
