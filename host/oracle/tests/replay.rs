@@ -1,8 +1,8 @@
 //! The files for the replay, read back by this test's own code.
 
+mod replays;
+
 use std::collections::BTreeSet;
-use std::path::PathBuf;
-use std::process::Command;
 
 use oracle::check::{check, Answer};
 use oracle::damage::Case;
@@ -13,47 +13,17 @@ use oracle::replay::{fnv, replay_checks, replay_series, Cases, Series, CHECKS, S
 use oracle::rng::Rng;
 use oracle::series::{operations, Operation};
 use oracle::series_cases::{series_case, KINDS};
+use replays::{mistaken, path, same_by_command, Reader};
 
 const TABLE: usize = 7_680;
 
 /// Kind, refusal, record and three values.
 type Numbers = [u64; 6];
 
-/// What is left of a file.
-struct Reader<'a>(&'a [u8]);
-
-impl<'a> Reader<'a> {
-    fn take(&mut self, length: usize) -> &'a [u8] {
-        let (taken, rest) = self.0.split_at(length);
-        self.0 = rest;
-        taken
-    }
-
-    /// A number, low byte first.
-    fn number(&mut self, width: usize) -> u64 {
-        let bytes = self.take(width).iter().rev();
-        bytes.fold(0, |number, &byte| number << 8 | u64::from(byte))
-    }
-
-    fn bytes(&mut self) -> &'a [u8] {
-        let length = self.number(4) as usize;
-        self.take(length)
-    }
-
+impl Reader<'_> {
     fn answer(&mut self) -> Numbers {
         [1, 4, 4, 4, 4, 4].map(|width| self.number(width))
     }
-
-    /// The number of cases, after the mark and the seed.
-    fn head(&mut self, mark: &[u8], seed: u64) -> u64 {
-        assert_eq!(self.take(8), mark);
-        assert_eq!(self.number(8), seed);
-        self.number(8)
-    }
-}
-
-fn path(name: &str) -> PathBuf {
-    PathBuf::from(env!("CARGO_TARGET_TMPDIR")).join(name)
 }
 
 fn refused(refusal: Refusal) -> Numbers {
@@ -113,7 +83,7 @@ fn checks_are_read_back() {
     let file = std::fs::read(&path).unwrap();
     let mut reader = Reader(&file);
     let mut refusals = BTreeSet::new();
-    for _ in 0..reader.head(CHECKS, 3) {
+    for _ in 0..reader.cases(CHECKS, 3) {
         assert!(!reader.bytes().is_empty());
         let (line_end, file) = (reader.number(8), reader.bytes());
         let answer = reader.answer();
@@ -249,7 +219,7 @@ fn series_are_read_back() {
     replay_series(4, generated, &path).unwrap();
     let file = std::fs::read(&path).unwrap();
     let mut reader = Reader(&file);
-    let cases = reader.head(SERIES, 4);
+    let cases = reader.cases(SERIES, 4);
     let mut refusals = BTreeSet::new();
     let mut tried = BTreeSet::new();
     for number in 0..cases {
@@ -284,24 +254,10 @@ fn known_hashes() {
 /// The commands write the same files, and mistakes in the call end with 2.
 #[test]
 fn replay_commands() {
-    let oracle = |arguments: &[&str]| {
-        let command = Command::new(env!("CARGO_BIN_EXE_oracle"))
-            .args(arguments)
-            .output();
-        command.unwrap()
-    };
-    let (by_call, by_command) = (path("call.checks"), path("command.checks"));
-    let line = replay_checks(6, 10, &by_call).unwrap();
-    let output = oracle(&["replay-checks", "6", "10", by_command.to_str().unwrap()]);
-    assert_eq!(output.status.code(), Some(0));
-    assert_eq!(output.stdout, format!("{line}\n").as_bytes());
-    assert!(std::fs::read(&by_call).unwrap() == std::fs::read(&by_command).unwrap());
-    let mistakes: [&[&str]; 3] = [
+    same_by_command("replay-checks", replay_checks);
+    mistaken(&[
         &["replay-checks", "1", "10"],
         &["replay-series", "1", "x", "no such file"],
         &["replay-series", "1", "0", "no such directory/file"],
-    ];
-    for arguments in mistakes {
-        assert_eq!(oracle(arguments).status.code(), Some(2));
-    }
+    ]);
 }

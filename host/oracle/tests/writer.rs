@@ -1,9 +1,9 @@
 //! The writer against the check: what it writes is read back as the values, and no file reads as
 //! the values that it refuses. The records are laid out here by this test's own code as well.
 
+mod replays;
+
 use std::collections::BTreeMap;
-use std::path::PathBuf;
-use std::process::Command;
 
 use oracle::read::{statements, Refusal};
 use oracle::rng::Rng;
@@ -13,6 +13,7 @@ use oracle::table_cases::{
 use oracle::values::{Head, Key, Row, Values};
 use oracle::write::valid_case;
 use oracle::writer::{movements, writable, write_statement};
+use replays::{mistaken, path, same_by_command, Reader};
 
 /// The writer's answer to an output with room for everything.
 fn write(values: &Values) -> Option<Vec<u8>> {
@@ -216,34 +217,21 @@ fn amount_zone(amount: i64) -> Vec<u8> {
 
 // The file for the replay, read back by this test's own code.
 
-struct Reader<'a>(&'a [u8]);
-
-impl<'a> Reader<'a> {
-    fn take(&mut self, length: usize) -> &'a [u8] {
-        let (taken, rest) = self.0.split_at(length);
-        self.0 = rest;
-        taken
-    }
-
+impl Reader<'_> {
     fn zone<const WIDTH: usize>(&mut self) -> [u8; WIDTH] {
         self.take(WIDTH).try_into().unwrap()
     }
 
     fn four(&mut self) -> u32 {
-        u32::from_le_bytes(self.zone())
+        self.number(4) as u32
     }
 
     fn eight(&mut self) -> u64 {
-        u64::from_le_bytes(self.zone())
+        self.number(8)
     }
 
     fn signed(&mut self) -> i64 {
         i64::from_le_bytes(self.zone())
-    }
-
-    fn bytes(&mut self) -> &'a [u8] {
-        let length = self.four() as usize;
-        self.take(length)
     }
 
     fn head(&mut self) -> Head {
@@ -341,10 +329,6 @@ fn retrip(reader: &mut Reader) {
     assert!(reads_as(records, &values));
 }
 
-fn path(name: &str) -> PathBuf {
-    PathBuf::from(env!("CARGO_TARGET_TMPDIR")).join(name)
-}
-
 /// Every refusal of the two calls occurs, about half of what is to be written can be, and the
 /// answers are those of the calls.
 #[test]
@@ -354,9 +338,7 @@ fn tables_are_read_back() {
     assert!(line.starts_with("tables: seed 3, 3792 fixed, 4000 generated: answered "));
     let file = std::fs::read(&path).unwrap();
     let mut reader = Reader(&file);
-    assert_eq!(reader.take(8), TABLES);
-    assert_eq!(reader.eight(), 3);
-    let cases = reader.eight();
+    let cases = reader.cases(TABLES, 3);
     let mut asked = BTreeMap::new();
     let mut refusals: BTreeMap<(u8, u64), u64> = BTreeMap::new();
     for number in 0..cases {
@@ -399,23 +381,9 @@ fn tables_are_read_back() {
 /// The command writes the same file, and mistakes in the call end with 2.
 #[test]
 fn the_command_for_tables() {
-    let oracle = |arguments: &[&str]| {
-        let command = Command::new(env!("CARGO_BIN_EXE_oracle"))
-            .args(arguments)
-            .output();
-        command.unwrap()
-    };
-    let (by_call, by_command) = (path("call.tables"), path("command.tables"));
-    let line = replay_tables(6, 10, &by_call).unwrap();
-    let output = oracle(&["replay-tables", "6", "10", by_command.to_str().unwrap()]);
-    assert_eq!(output.status.code(), Some(0));
-    assert_eq!(output.stdout, format!("{line}\n").as_bytes());
-    assert!(std::fs::read(&by_call).unwrap() == std::fs::read(&by_command).unwrap());
-    let mistakes: [&[&str]; 2] = [
+    same_by_command("replay-tables", replay_tables);
+    mistaken(&[
         &["replay-tables", "1", "10"],
         &["replay-tables", "1", "0", "no such directory/file"],
-    ];
-    for arguments in mistakes {
-        assert_eq!(oracle(arguments).status.code(), Some(2));
-    }
+    ]);
 }
