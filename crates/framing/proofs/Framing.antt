@@ -1,4 +1,4 @@
--- The definitions of a frame and of a line end at each return of `cut` and `wrong_end`.
+-- The definitions of a frame and of a line end at each return of `cut_length` and `wrong_end`.
 use mathlib.Core.Path.{_≡_, refl, ap, sym, _∙_}
 use mathlib.Core.Bool.{not}
 use mathlib.Core.List.{List, [], _∷_}
@@ -10,38 +10,43 @@ use lib.ListN.{length}
 use borrow.Author.Tests.{lt-ltb, le-ltb, eq-eqb, ne-eqb}
 use Rattle.zones.specs.Copy.{sameBytes}
 use Rattle.framing.specs.Files.{lineEnd, endOf, widthOf}
-use Rattle.framing.specs.Frames.{frameOf}
+use Rattle.framing.specs.Frames.{frameOf, frameBy}
 use Rattle.framing.specs.declared.Form.{Form}
 use Rattle.framing.specs.declared.Frame.the-variants.{Records, Refused}
 
-module _ (f : Form) (size most : ℕ) (b : List ℕ) where
-  pub unknown : 2 < lineEnd f → Refused 1 ≡ frameOf f size most b
-  unfolding frameOf
+module _ (f : Form) (size most n : ℕ) where
+  pub unknown : 2 < lineEnd f → Refused 1 ≡ frameBy f size most n
+  unfolding frameBy
   unknown h = rw (lt-ltb 2 (lineEnd f) h)
 
   module _ (k : lineEnd f ≤ 2) where
-    pub uneven-length : (length b % (size + lineEnd f) ≡ 0 → ⊥) → Refused 2 ≡ frameOf f size most b
-    unfolding frameOf widthOf
-    uneven-length h = rw (le-ltb 2 (lineEnd f) k, ne-eqb (length b % (size + lineEnd f)) 0 h)
+    pub uneven-length : (n % (size + lineEnd f) ≡ 0 → ⊥) → Refused 2 ≡ frameBy f size most n
+    unfolding frameBy widthOf
+    uneven-length h = rw (le-ltb 2 (lineEnd f) k, ne-eqb (n % (size + lineEnd f)) 0 h)
 
-    pub too-many : length b % (size + lineEnd f) ≡ 0 → most < length b / (size + lineEnd f) → Refused 3 ≡ frameOf f size most b
-    unfolding frameOf widthOf
-    too-many e h = rw (le-ltb 2 (lineEnd f) k, eq-eqb (length b % (size + lineEnd f)) 0 e, lt-ltb most (length b / (size + lineEnd f)) h)
+    pub too-many : n % (size + lineEnd f) ≡ 0 → most < n / (size + lineEnd f) → Refused 3 ≡ frameBy f size most n
+    unfolding frameBy widthOf
+    too-many e h = rw (le-ltb 2 (lineEnd f) k, eq-eqb (n % (size + lineEnd f)) 0 e, lt-ltb most (n / (size + lineEnd f)) h)
 
-    pub records : length b % (size + lineEnd f) ≡ 0 → length b / (size + lineEnd f) ≤ most
-        → Records (size + lineEnd f) (length b / (size + lineEnd f)) ≡ frameOf f size most b
-    unfolding frameOf widthOf
-    records e h = rw (le-ltb 2 (lineEnd f) k, eq-eqb (length b % (size + lineEnd f)) 0 e, le-ltb most (length b / (size + lineEnd f)) h)
+    pub records : n % (size + lineEnd f) ≡ 0 → n / (size + lineEnd f) ≤ most
+        → Records (size + lineEnd f) (n / (size + lineEnd f)) ≡ frameBy f size most n
+    unfolding frameBy widthOf
+    records e h = rw (le-ltb 2 (lineEnd f) k, eq-eqb (n % (size + lineEnd f)) 0 e, le-ltb most (n / (size + lineEnd f)) h)
 
     -- records of no bytes
-    pub empty : size + lineEnd f ≡ 0 → length b ≡ 0 → Records 0 0 ≡ frameOf f size most b
+    pub empty : size + lineEnd f ≡ 0 → n ≡ 0 → Records 0 0 ≡ frameBy f size most n
     empty w l =
-        let q : length b / (size + lineEnd f) ≡ 0 = rw w (div-zero (length b)) in
-        let z : Records (size + lineEnd f) (length b / (size + lineEnd f)) ≡ Records 0 0 = rw (q, w) in
-        sym z ∙ records (rw w (mod-zero (length b) ∙ l)) (rw q (zero-le))
+        let q : n / (size + lineEnd f) ≡ 0 = rw w (div-zero n) in
+        let z : Records (size + lineEnd f) (n / (size + lineEnd f)) ≡ Records 0 0 = rw (q, w) in
+        sym z ∙ records (rw w (mod-zero n ∙ l)) (rw q (zero-le))
 
-    pub unequal : size + lineEnd f ≡ 0 → (length b ≡ 0 → ⊥) → Refused 2 ≡ frameOf f size most b
-    unequal w l = uneven-length (λ e. l (sym (mod-zero (length b)) ∙ (ap (λ (n : ℕ). length b % n) (sym w) ∙ e)))
+    pub unequal : size + lineEnd f ≡ 0 → (n ≡ 0 → ⊥) → Refused 2 ≡ frameBy f size most n
+    unequal w l = uneven-length (λ e. l (sym (mod-zero n) ∙ (ap (λ (m : ℕ). n % m) (sym w) ∙ e)))
+
+-- a file's frame is that of its length
+pub frame-length : (f : Form) (size most : ℕ) (b : List ℕ) → frameBy f size most (length b) ≡ frameOf f size most b
+unfolding frameOf frameBy
+frame-length f size most b = refl
 
 -- the line end, by its number
 module _ (f : Form) (after : List ℕ) where
