@@ -1,3 +1,4 @@
 pub mod Written
 pub mod Found
+pub mod Rows
 pub mod One

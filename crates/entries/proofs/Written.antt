@@ -50,7 +50,7 @@ place-put x first n l p q r =
     rw (p, q, r) (filled (6 ∷ 4 ∷ 13 ∷ []) (digitsOf 6 first ∷ digitsOf 4 n ∷ replicate 13 32 ∷ []) x (length-digits 6 first, (length-digits 4 n, (refl, tt))) l)
 
 module _ (first n : ℕ) (o c : List ℕ) (h : length o ≡ recordSize) (k : length c ≡ recordSize) where
-  length-key : length (keyText o) ≡ 25
+  pub length-key : length (keyText o) ≡ 25
   unfolding keyText
   length-key =
       length-pieces (5 ∷ 5 ∷ 3 ∷ 1 ∷ 11 ∷ []) _

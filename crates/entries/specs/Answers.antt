@@ -2,7 +2,7 @@
 use mathlib.Core.Path.{_≡_}
 use mathlib.Core.List.{List}
 use Prim.Native.Nat.{ℕ}
-use Rattle.entries.specs.Entries.{entryPut, entryIn, bodyAt}
+use Rattle.entries.specs.Entries.{entryPut, entryIn, rowPut, bodyAt}
 use Rattle.entries.specs.declared.Entry.{Entry}
 
 -- put_entry
@@ -12,6 +12,10 @@ pub record PutEntry (first n : ℕ) (o c dst dst′ : List ℕ) : Type 0 where
 -- entry_at
 pub record EntryAt (j : List ℕ) (e : ℕ) (r : Entry) : Type 0 where
   pub answer : r ≡ entryIn j e
+
+-- put_row
+pub record PutRow (j : List ℕ) (e : ℕ) (dst dst′ : List ℕ) : Type 0 where
+  pub content : dst′ ≡ rowPut j e dst
 
 -- body_at
 pub record BodyAt (j : List ℕ) (e : ℕ) (r : List ℕ) : Type 0 where

@@ -10,12 +10,13 @@
 use mathlib.Core.Bool.{false, not, _&&_}
 use mathlib.Core.List.{List, [], _∷_}
 use Prim.Native.Nat.{ℕ, _+_, _*_}
-use lib.Dec.{eqb, leb}
+use lib.Dec.{eqb, leb, ltb}
 use lib.ListN.{length, take, drop, getD, replicate}
 use Rattle.zones.specs.Choice.{pick}
 use Rattle.zones.specs.Number.{valueOf, digitsOf}
 use Rattle.zones.specs.Pieces.{flat}
-use Rattle.layouts.specs.Zone.{part}
+use Rattle.dates.specs.Days.{dateOf}
+use Rattle.layouts.specs.Zone.{part, dayIn}
 use Rattle.records.specs.July.{recordSize}
 use Rattle.records.specs.Tests.{bothRecords}
 use Rattle.entries.specs.declared.Entry.{Entry}
@@ -69,6 +70,19 @@ entryBytes j e = take entrySize (drop (entrySize * e) j)
 
 unfoldable pub entryIn : List ℕ → ℕ → Entry
 entryIn j e = pick (leb mostEntries e) noEntry (fieldsOf (entryBytes j e))
+
+-- A ROW: what an entry says of its statement, for any 60 bytes. The account key, the old date and the new one, each as eight digits YYYYMMDD,
+-- zeros where the date does not exist.
+abbrev pub rowSize : ℕ
+rowSize = 41
+
+unfoldable pub rowOf : List ℕ → List ℕ
+rowOf x = flat (part 1 25 x ∷ digitsOf 8 (dayIn (dateOf (part 26 31 x))) ∷ digitsOf 8 (dayIn (dateOf (part 32 37 x))) ∷ [])
+
+-- the row of entry e, from 0, into 41 bytes; nothing is written where there is no such entry
+unfoldable pub rowPut : (j : List ℕ) → (e : ℕ) → (dst : List ℕ) → List ℕ
+rowPut j e dst =
+    pick (eqb (length dst) rowSize && (ltb e mostEntries && leb (entrySize * e + entrySize) (length j))) (rowOf (entryBytes j e)) dst
 
 -- n lines from line k on
 abbrev pub linesFrom : List ℕ → (k n : ℕ) → List ℕ

@@ -1,9 +1,12 @@
-// The journal's table of contents: an entry written, what it says of its body, and the body that it names. Only `put_entry` and `entry_fields` know an entry's positions.
+// The journal's table of contents: an entry written, what it says of its body and of its statement, and the body that it names. Only `put_entry`, `entry_fields` and `put_fields` know an entry's positions.
 ghost use mathlib.Core.Path.{_≡_};
 ghost use lib.ListN.{length};
+ghost use Rattle.dates.specs.Days.{dateOf};
+ghost use Rattle.layouts.specs.Zone.{dayIn};
 ghost use Rattle.records.specs.July.{recordSize};
-ghost use Rattle.entries.specs.Entries.{entrySize, keyText, datesText, placeText, fieldsOf};
-ghost use Rattle.entries.specs.Answers.{PutEntry, EntryAt, BodyAt};
+ghost use Rattle.entries.specs.Entries.{entrySize, rowSize, keyText, datesText, placeText, fieldsOf, rowOf};
+ghost use Rattle.entries.specs.Answers.{PutEntry, EntryAt, PutRow, BodyAt};
+use dates::Date;
 
 // Whether an entry is used, its body's first line, and its number of records.
 pub struct Entry {
@@ -91,6 +94,44 @@ pub fn entry_at(journal: &[u8], e: usize) -> Entry
         return none;
     }
     entry_fields(&journal[a..z])
+}
+
+// The number YYYYMMDD of a date, 0 where it does not exist.
+fn day(date: &[u8]) -> u32
+    ensures { λ r. ⌜ r ≡ dayIn (dateOf (now (date .entry))) ⌝ }
+{
+    match dates::read(date) {
+        Date::Day(k) => k,
+        Date::NoDay => 0,
+    }
+}
+
+// Key, old date and new date of an entry, the dates as eight digits.
+fn put_fields(dst: &mut [u8], x: &[u8])
+    requires { ⌜ (length (now dst) ≡ rowSize) × (length (now x) ≡ entrySize) ⌝ }
+    ensures { λ _. ⌜ now (dst .exit) ≡ rowOf (now (x .entry)) ⌝ }
+{
+    zones::put(&mut dst[0..25], &x[0..25]);
+    zones::put_number(&mut dst[25..33], day(&x[25..31]) as u64);
+    zones::put_number(&mut dst[33..41], day(&x[31..37]) as u64);
+}
+
+// The row of entry e, from 0. Nothing is written where the row has another length, or the journal no such entry.
+pub fn put_row(dst: &mut [u8], journal: &[u8], e: usize)
+    ensures { λ _. ⌜ PutRow (now (journal .entry)) e (now (dst .entry)) (now (dst .exit)) ⌝ }
+{
+    if dst.len() != 41 {
+        return;
+    }
+    if 128 <= e {
+        return;
+    }
+    let a = 60 * e;
+    let z = a + 60;
+    if journal.len() < z {
+        return;
+    }
+    put_fields(dst, &journal[a..z]);
 }
 
 // The body that entry e names, from 0, as a part of the journal. Empty where the entry is unused, or not all its lines are there.
