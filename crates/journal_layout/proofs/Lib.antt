@@ -6,4 +6,7 @@ pub mod Adding
 pub mod Exact
 pub mod Places
 pub mod Freeing
+pub mod Using
+pub mod Listing
+pub mod Growing
 pub mod One

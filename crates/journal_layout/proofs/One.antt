@@ -9,7 +9,8 @@ use Rattle.readers.specs.declared.Place.{Place}
 use Rattle.journal_layout.specs.declared.Free.{Free}
 use Rattle.journal_layout.specs.declared.Judgement.{Judgement}
 use Rattle.journal_layout.specs.declared.Opening.{Opening}
-use Rattle.journal_layout.specs.Answers.{Later, FollowsOn, Judged, Sound, FirstFree, Opens, EntryPlace, EntryBody}
+use Rattle.journal_layout.specs.declared.Usage.{Usage}
+use Rattle.journal_layout.specs.Answers.{Later, FollowsOn, Judged, Sound, FirstFree, UsedOf, Opens, EntryPlace, ListedPlace, EntryBody}
 
 pub one-later : {last : Judgement} {f : Form} {h s : List ℕ} {r q : Judgement} → Later last f h s r → Later last f h s q → r ≡ q
 one-later g h = g .answer ∙ sym (h .answer)
@@ -26,11 +27,17 @@ one-sound g h = g .answer ∙ sym (h .answer)
 pub one-first-free : {j : List ℕ} {r q : Free} → FirstFree j r → FirstFree j q → r ≡ q
 one-first-free g h = g .answer ∙ sym (h .answer)
 
+pub one-used : {j : List ℕ} {r q : Usage} → UsedOf j r → UsedOf j q → r ≡ q
+one-used g h = g .answer ∙ sym (h .answer)
+
 pub one-open : {j : List ℕ} {r q : Opening} {x y : List ℕ} → Opens j r x → Opens j q y → (r ≡ q) × (x ≡ y)
 one-open g h = (g .answer ∙ sym (h .answer), g .content ∙ sym (h .content))
 
 pub one-entry-place : {j : List ℕ} {e : ℕ} {r q : Place} → EntryPlace j e r → EntryPlace j e q → r ≡ q
 one-entry-place g h = g .answer ∙ sym (h .answer)
+
+pub one-listed-place : {j : List ℕ} {e : ℕ} {r q : Place} → ListedPlace j e r → ListedPlace j e q → r ≡ q
+one-listed-place g h = g .answer ∙ sym (h .answer)
 
 pub one-entry : {j : List ℕ} {e : ℕ} {r q : List ℕ} → EntryBody j e r → EntryBody j e q → r ≡ q
 one-entry g h = g .answer ∙ sym (h .answer)

@@ -12,14 +12,28 @@ use Rattle.journal_layout.specs.declared.Free.{Free}
 use Rattle.journal_layout.specs.declared.Judgement.{Judgement}
 use Rattle.journal_layout.specs.declared.Opening.{Opening}
 use Rattle.journal_layout.specs.declared.Opening.the-variants.{Opened, Refused}
+use Rattle.journal_layout.specs.declared.Usage.{Usage}
+use Rattle.journal_layout.specs.declared.Usage.the-variants as U
 use Rattle.journal_layout.specs.Chains.{followsBy}
 use Rattle.journal_layout.specs.Layout.{isLength, openedOf}
-use Rattle.journal_layout.specs.Test.{laterOf, judgedBy, soundIn, freeIn, entryPlaceOf, entryBodyOf}
+use Rattle.journal_layout.specs.Test.{laterOf, judgedBy, soundIn, freeIn, usageOf, entryPlaceOf, listedPlaceOf, entryBodyOf}
 
 -- number and record; zero where the paper says zero
 abbrev pub paperOpening : Opening → ℕ × ℕ
 paperOpening Opened = (0, 0)
 paperOpening (Refused n r) = (n, r)
+
+-- number and record, and the three numbers; zero where the paper says zero
+pub record PaperUsage : Type 0 where
+  pub number : ℕ
+  pub at : ℕ
+  pub entries : ℕ
+  pub used : ℕ
+  pub lines : ℕ
+
+abbrev pub paperUsage : Usage → PaperUsage
+paperUsage (U.Counted e u l) = record { number = 0; at = 0; entries = e; used = u; lines = l }
+paperUsage (U.Refused n r) = record { number = n; at = r; entries = 0; used = 0; lines = 0 }
 
 -- later
 pub record Later (last : Judgement) (f : Form) (h s : List ℕ) (r : Judgement) : Type 0 where
@@ -41,6 +55,10 @@ pub record Sound (j : List ℕ) (r : Bool) : Type 0 where
 pub record FirstFree (j : List ℕ) (r : Free) : Type 0 where
   pub answer : r ≡ freeIn j
 
+-- used
+pub record UsedOf (j : List ℕ) (r : Usage) : Type 0 where
+  pub answer : r ≡ usageOf j
+
 -- open: 21 for a length that no journal has
 pub record Opens (j : List ℕ) (r : Opening) (j′ : List ℕ) : Type 0 where
   pub answer : r ≡ pick (isLength (length j)) Opened (Refused 21 0)
@@ -49,6 +67,10 @@ pub record Opens (j : List ℕ) (r : Opening) (j′ : List ℕ) : Type 0 where
 -- entry_place
 pub record EntryPlace (j : List ℕ) (e : ℕ) (r : Place) : Type 0 where
   pub answer : r ≡ entryPlaceOf j e
+
+-- listed_place
+pub record ListedPlace (j : List ℕ) (e : ℕ) (r : Place) : Type 0 where
+  pub answer : r ≡ listedPlaceOf j e
 
 -- entry
 pub record EntryBody (j : List ℕ) (e : ℕ) (r : List ℕ) : Type 0 where

@@ -6,6 +6,7 @@ use Prim.Native.Nat.{ℕ, _+_, _-_, _*_, _%_, _≤_}
 use lib.Dec.{eqb, leb, ltb}
 use lib.ListN.{length, getD, replicate}
 use Rattle.zones.specs.Choice.{pick}
+use Rattle.zones.specs.Number.{digitsOf}
 use Rattle.zones.specs.Pieces.{flat}
 use Rattle.framing.specs.Files.{All}
 use Rattle.grammar.specs.declared.Key.{Key}
@@ -16,7 +17,7 @@ use Rattle.records.specs.July.{recordSize, july}
 use Rattle.readers.specs.declared.Place.{Place}
 use Rattle.readers.specs.declared.Place.the-variants.{At, Refused}
 use Rattle.bodies.specs.Bodies.{bodyOf, openingText, closingText}
-use Rattle.entries.specs.Entries.{mostEntries, entrySize, tableSize, lineAt, entryText}
+use Rattle.entries.specs.Entries.{mostEntries, entrySize, tableSize, lineAt, keyText, entryText}
 use Rattle.journal_layout.specs.Chains.{Chained, ofAccount, Distinct}
 
 -- the most body lines
@@ -69,6 +70,10 @@ abbrev pub placeAmong : List Statement → ℕ → Place
 placeAmong ss e =
     pick (eqb e 0 || ltb (length ss) e) (Refused 25 0)
     (At (lineAt (recordsBefore (e - 1) ss)) (recordSize * sizeOf (getD ss (e - 1) nothing)))
+
+-- the row of a statement: its account key as in its 01, its old date and its new one
+unfoldable pub rowFor : Statement → List ℕ
+rowFor s = flat (keyText (openingText s) ∷ digitsOf 8 (s .old-date) ∷ digitsOf 8 (s .new-date) ∷ [])
 
 -- opening: the layout of no statement, in a buffer of a right length
 unfoldable pub openedOf : List ℕ → List ℕ

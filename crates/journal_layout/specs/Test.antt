@@ -1,7 +1,7 @@
 -- The test for a sound journal in one pass over the table, for any bytes, and what is read of a journal. `proofs/Exact.antt` shows what passing it means.
 use mathlib.Core.Bool.{Bool, false, _&&_, _||_}
 use mathlib.Core.List.{List, [], _∷_}
-use Prim.Native.Nat.{ℕ, zero, suc, _+_, _-_, _*_}
+use Prim.Native.Nat.{ℕ, zero, suc, _+_, _-_, _*_, _/_}
 use lib.Dec.{eqb, leb}
 use lib.ListN.{length, take, drop, getD, replicate}
 use Rattle.zones.specs.Choice.{pick}
@@ -17,12 +17,15 @@ use Rattle.contents.specs.Heads.{recordAtOf}
 use Rattle.readers.specs.declared.Place.{Place}
 use Rattle.readers.specs.declared.Place.the-variants.{At, Refused}
 use Rattle.bodies.specs.Bodies.{plain, bodyOf, single, statementOf, sameRecords, closingIn}
+use Rattle.entries.specs.declared.Entry.{Entry}
 use Rattle.entries.specs.Entries.{mostEntries, entrySize, tableSize, lineAt, entryPut, entryBytes, entryIn, linesFrom, bodyAt}
 use Rattle.journal_layout.specs.declared.Free.{Free}
 use Rattle.journal_layout.specs.declared.Judgement.{Judgement}
 use Rattle.journal_layout.specs.declared.Judgement.the-variants.{Held, First, After}
+use Rattle.journal_layout.specs.declared.Usage.{Usage}
+use Rattle.journal_layout.specs.declared.Usage.the-variants as U
 use Rattle.journal_layout.specs.Chains.{followsBy}
-use Rattle.journal_layout.specs.Layout.{isLength, placeAmong}
+use Rattle.journal_layout.specs.Layout.{isLength, linesOf, placeAmong}
 
 -- the new date and new balance of h, a statement's bytes, where its account is that of s
 unfoldable pub laterOf : Judgement → Form → (h s : List ℕ) → Judgement
@@ -88,9 +91,23 @@ lineBehind j e = pick (eqb e 0) 0 (entryIn j (e - 1) .first + entryIn j (e - 1) 
 unfoldable pub freeIn : List ℕ → Free
 freeIn j = record { entry = unusedFrom mostEntries 0 j; line = lineBehind j (unusedFrom mostEntries 0 j) }
 
+-- how much is used: 21; else the statements held, the body lines that they take, and the body lines in all
+unfoldable pub usageOf : List ℕ → Usage
+usageOf j = pick (soundIn j) (U.Counted (length (heldOf j)) (linesOf (heldOf j)) ((length j - tableSize) / recordSize)) (U.Refused 21 0)
+
 -- entry e's body, from 1: its place and its bytes; 21, then 25
 unfoldable pub entryPlaceOf : List ℕ → ℕ → Place
 entryPlaceOf j e = pick (soundIn j) (placeAmong (heldOf j) e) (Refused 21 0)
+
+-- the place that an entry names: 25 where it is unused or its lines are not all there
+abbrev pub placeBy : List ℕ → Entry → Place
+placeBy j x =
+    pick (x .used && leb (lineAt (x .first) + recordSize * x .records) (length j)) (At (lineAt (x .first)) (recordSize * x .records))
+    (Refused 25 0)
+
+-- the same without the sound test, for any bytes: 21 for a length that no journal has; 25 for entry 0, and as the entry says; above 128 there is none
+unfoldable pub listedPlaceOf : List ℕ → ℕ → Place
+listedPlaceOf j e = pick (isLength (length j)) (pick (eqb e 0) (Refused 25 0) (placeBy j (entryIn j (e - 1)))) (Refused 21 0)
 
 abbrev pub bodyFor : Place → List ℕ → List ℕ
 bodyFor (At first len) body = body

@@ -1,4 +1,4 @@
-// The journal's bytes: what held statements say of another, the test for a sound journal, opening, and the entries' bodies.
+// The journal's bytes: what held statements say of another, the test for a sound journal, how much of it is used, opening, and the entries' bodies.
 ghost use mathlib.Core.Path.{_≡_};
 ghost use Prim.Native.Nat.{_+_, _*_, _<_, _≤_};
 ghost use lib.ListN.{length, replicate};
@@ -7,7 +7,7 @@ ghost use Rattle.records.specs.July.{recordSize};
 ghost use Rattle.entries.specs.Entries.{mostEntries, entrySize, tableSize, lineAt, entryPut};
 ghost use Rattle.journal_layout.specs.Layout.{mostLines, isLength};
 ghost use Rattle.journal_layout.specs.Test.{fitsIn, restBlank, walkIn, unusedFrom};
-ghost use Rattle.journal_layout.specs.Answers.{Later, FollowsOn, Judged, Sound, FirstFree, Opens, EntryPlace, EntryBody};
+ghost use Rattle.journal_layout.specs.Answers.{Later, FollowsOn, Judged, Sound, FirstFree, UsedOf, Opens, EntryPlace, ListedPlace, EntryBody};
 use framing::Form;
 use readers::Place;
 
@@ -22,6 +22,12 @@ pub enum Judgement {
 pub struct Free {
     pub entry: usize,
     pub line: usize,
+}
+
+// The statements held, the body lines that they take, and the body lines in all; or a refusal.
+pub enum Usage {
+    Counted { entries: u64, used: u64, lines: u64 },
+    Refused { number: u64, record: u64 },
 }
 
 pub enum Opening {
@@ -189,6 +195,24 @@ pub fn first_free(journal: &[u8]) -> Free
     }
 }
 
+// Whether a journal is sound, and how much of it is used.
+pub fn used(journal: &[u8]) -> Usage
+    ensures { λ r. ⌜ UsedOf (now (journal .entry)) r ⌝ }
+{
+    if !sound(journal) {
+        return Usage::Refused {
+            number: 21,
+            record: 0,
+        };
+    }
+    let free = first_free(journal);
+    Usage::Counted {
+        entries: free.entry as u64,
+        used: free.line as u64,
+        lines: ((journal.len() - 7680) / 120) as u64,
+    }
+}
+
 fn blank_all(s: &mut [u8])
     ensures { λ _. ⌜ now (s .exit) ≡ replicate (length (now (s .entry))) 32 ⌝ }
 {
@@ -240,6 +264,40 @@ pub fn entry_place(journal: &[u8], e: u64) -> Place
         first: 7680 + 120 * x.first,
         len: 120 * x.records,
     }
+}
+
+// The same without the sound test, so that whoever has just had it need not pay it for each entry. It says what stands there.
+pub fn listed_place(journal: &[u8], e: u64) -> Place
+    ensures { λ r. ⌜ ListedPlace (now (journal .entry)) e r ⌝ }
+{
+    if !is_length(journal.len()) {
+        return Place::Refused {
+            number: 21,
+            record: 0,
+        };
+    }
+    if e == 0 {
+        return Place::Refused {
+            number: 25,
+            record: 0,
+        };
+    }
+    let x = entries::entry_at(journal, (e - 1) as usize);
+    if !x.used {
+        return Place::Refused {
+            number: 25,
+            record: 0,
+        };
+    }
+    let first = 7680 + 120 * x.first;
+    let len = 120 * x.records;
+    if journal.len() < first + len {
+        return Place::Refused {
+            number: 25,
+            record: 0,
+        };
+    }
+    Place::At { first, len }
 }
 
 // The body of entry e as a part of the journal: itself a file of one statement, without line ends. Empty on refusal.
