@@ -1,22 +1,24 @@
 -- What an entry says, without the sound test: at the code's returns, and in a sound journal.
 use mathlib.Core.Path.{_≡_, refl, sym, ap, _∙_}
-use mathlib.Core.Bool.{Bool, true, false, not}
+use mathlib.Core.Bool.{Bool, true, false, not, _&&_}
 use mathlib.Core.List.{List}
 use Prim.Native.Nat.{ℕ, _+_, _-_, _*_, _<_, _≤_}
 use native.Mathlib.Omega.{arith}
-use lib.Dec.{eqb}
+use lib.Dec.{eqb, leb}
 use lib.ListN.{length, getD}
-use borrow.Author.Tests.{eq-eqb, ne-eqb, eqb-true, eqb-false, le-leb, lt-leb, not-true, not-false}
+use borrow.Author.Tests.{eq-eqb, ne-eqb, eqb-true, eqb-false, le-leb, lt-leb, leb-true, leb-false, not-true, not-false}
+use Rattle.zones.specs.Choice.{pick}
 use Rattle.grammar.specs.Statements.{Statement}
 use Rattle.grammar.specs.Files.{Writable}
 use Rattle.grammar.specs.Parts.{sizeOf, recordsBefore, nothing}
+use Rattle.grammar.proofs.Tests.{clash}
 use Rattle.records.specs.July.{recordSize, july, dateIn}
 use Rattle.readers.specs.declared.Place.the-variants.{At, Refused}
 use Rattle.bodies.specs.Bodies.{openingText, closingText}
 use Rattle.bodies.proofs.Single.{body-reads}
 use Rattle.bodies.proofs.Ends.{opening-written, opening-there, closing-written, closing-there}
 use Rattle.entries.specs.declared.Entry.{Entry}
-use Rattle.entries.specs.Entries.{lineAt, entryBytes, entryIn, rowOf}
+use Rattle.entries.specs.Entries.{mostEntries, lineAt, entryBytes, entryIn, rowOf}
 use Rattle.entries.proofs.Rows.{row-of-entry}
 use Rattle.journal_layout.specs.Layout.{isLength, entryOf, rowFor, Journal}
 use Rattle.journal_layout.specs.Test.{soundIn, heldOf, entryPlaceOf, listedPlaceOf}
@@ -51,6 +53,46 @@ module _ (j : List ℕ) (e : ℕ) {t : Bool} (p : t ≡ isLength (length j)) whe
         listed-found l =
             sym
             (rw (← p, not-false t h, ne-eqb e 0 some, ← q, not-false (x .used) n, le-leb (lineAt (x .first) + recordSize * x .records) (length j) l))
+
+-- what a place listed means, whatever the bytes
+pub record Listed (j : List ℕ) (e x n : ℕ) : Type 0 where
+  pub long : isLength (length j) ≡ true
+  pub some : 1 ≤ e
+  pub index : e - 1 < mostEntries
+  pub first : x ≡ lineAt (entryIn j (e - 1) .first)
+  pub len : n ≡ recordSize * entryIn j (e - 1) .records
+  pub inside : x + n ≤ length j
+
+used-index : (j : List ℕ) (i : ℕ) → entryIn j i .used ≡ true → i < mostEntries
+unfolding entryIn
+used-index j i u = by (leb mostEntries i) refl
+  where
+    by : (a : Bool) → leb mostEntries i ≡ a → i < mostEntries
+    by true p = absurd (let z : entryIn j i .used ≡ false = rw p in clash u z)
+    by false p = leb-false mostEntries i p
+
+pub listed : (j : List ℕ) (e : ℕ) {x n : ℕ} → At x n ≡ listedPlaceOf j e → Listed j e x n
+unfolding listedPlaceOf
+listed j e {x} {n} p =
+    by (isLength (length j)) refl (eqb e 0) refl (y .used) refl (leb (lineAt (y .first) + recordSize * y .records) (length j)) refl p
+  where
+    y : Entry
+    y = entryIn j (e - 1)
+
+    by : (a : Bool) → isLength (length j) ≡ a → (b : Bool) → eqb e 0 ≡ b → (c : Bool) → y .used ≡ c
+        → (d : Bool) → leb (lineAt (y .first) + recordSize * y .records) (length j) ≡ d
+        → At x n ≡ pick a (pick b (Refused 25 0) (pick (c && d) (At (lineAt (y .first)) (recordSize * y .records)) (Refused 25 0))) (Refused 21 0)
+        → Listed j e x n
+    by false l b o c u d i q = absurd (let z : _≡_ {A = ℕ} 0 1 = cc in omega arith)
+    by true l true o c u d i q = absurd (let z : _≡_ {A = ℕ} 0 1 = cc in omega arith)
+    by true l false o false u d i q = absurd (let z : _≡_ {A = ℕ} 0 1 = cc in omega arith)
+    by true l false o true u false i q = absurd (let z : _≡_ {A = ℕ} 0 1 = cc in omega arith)
+    by true l false o true u true i q =
+        let k = eqb-false e 0 o in
+        let f : x ≡ lineAt (y .first) = cc in
+        let g : n ≡ recordSize * y .records = cc in
+        let h = leb-true (lineAt (y .first) + recordSize * y .records) (length j) i in
+        record { long = l; some = omega arith; index = used-index j (e - 1) u; first = f; len = g; inside = omega arith }
 
 -- in a sound journal it is the place that the sound test gives
 pub listed-sound : (j : List ℕ) (e : ℕ) → soundIn j ≡ true → listedPlaceOf j e ≡ entryPlaceOf j e
