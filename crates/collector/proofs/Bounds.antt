@@ -1,8 +1,8 @@
--- The numbers of every answer keep their bounds, for any journal, line-end number and file.
+-- The numbers of every answer keep their bounds, for any journal, line-end number, file and length.
 use mathlib.Core.Path.{_≡_, refl}
-use mathlib.Core.Bool.{Bool, true, false, _&&_, _||_, false≢true}
+use mathlib.Core.Bool.{Bool, true, false, not, _&&_, _||_, false≢true}
 use mathlib.Core.List.{List, [], _∷_, _++_, map}
-use Prim.Native.Nat.{ℕ, _+_, _-_, _<_, _≤_}
+use Prim.Native.Nat.{ℕ, _+_, _-_, _*_, _/_, _%_, _<_, _≤_}
 use native.Mathlib.Omega.{arith}
 use lib.Dec.{eqb, leb, ltb}
 use lib.ListN.{length-map, length, take, getD, length-append}
@@ -10,7 +10,9 @@ use borrow.Author.Tests.{eqb-true, ltb-true, ltb-false}
 use Rattle.zones.specs.Choice.{pick}
 use Rattle.zones.proofs.Bools.{and-left, and-right}
 use Rattle.framing.specs.declared.Form.{Form}
-use Rattle.framing.specs.Files.{widthOf, countOf}
+use Rattle.framing.specs.declared.Frame.the-variants as F
+use Rattle.framing.specs.Files.{widthOf, countOf, unknownEnd}
+use Rattle.framing.specs.Frames.{frameBy}
 use Rattle.framing.proofs.Cuts.{length-chunks}
 use Rattle.grammar.specs.Answer as G
 use Rattle.grammar.specs.Answer.{Rule, ruled, Counts, Answer, first, cut, whole}
@@ -26,31 +28,34 @@ use Rattle.statements.specs.Answers.{checkedOf}
 use Rattle.readers.specs.declared.Place.{Place}
 use Rattle.readers.specs.declared.Place.the-variants as P
 use Rattle.bodies.proofs.Single.{size-most}
-use Rattle.entries.specs.Entries.{mostEntries}
+use Rattle.entries.specs.Entries.{mostEntries, tableSize, lineAt, entryIn, rowSize}
 use Rattle.journal_layout.specs.declared.Opening.the-variants as O
+use Rattle.journal_layout.specs.declared.Usage.the-variants as U
 use Rattle.journal_layout.specs.Chains.{judgementOf, followsBy}
 use Rattle.journal_layout.specs.Layout.{isLength, linesOf}
-use Rattle.journal_layout.specs.Test.{soundIn, heldOf, entryPlaceOf}
+use Rattle.journal_layout.specs.Test.{soundIn, heldOf, entryPlaceOf, listedPlaceOf, usageOf}
+use Rattle.journal_layout.proofs.Testing.{is-long}
 use Rattle.journal_layout.proofs.Holding.{before-lines, there-alone}
-use Rattle.journal_layout.proofs.Exact.{journal-held, sound-journal}
+use Rattle.journal_layout.proofs.Exact.{journal-length, journal-held, sound-journal}
 use Rattle.journal_layout.proofs.Places.{stood}
+use Rattle.journal_layout.proofs.Listing.{listed as place-listed}
 use Rattle.journal.specs.Delivery.{hold, store, refuse, isHeld, verdictOf, Outcome, refused, proceed, run, linesIn, outcomeOf}
 use Rattle.journal.specs.Answers.{answerOf}
-use Rattle.collector.specs.Bounds.{lastRefusal, Refusal, Body, CheckBounds, OpeningBounds, DeliveryBounds, EntryBounds}
-use Rattle.collector.specs.Answers.{openAnswer}
+use Rattle.collector.specs.Bounds.{lastRefusal, Refusal, Body, Lines, CheckBounds, OpeningBounds, DeliveryBounds, EntryBounds, ListedBounds, UsageBounds, LengthBounds}
+use Rattle.collector.specs.Answers.{form, openAnswer, listedBy, listedAnswer, lengthAnswer}
 
 -- ---- the check
 
--- numbers of the list of refusals
+-- numbers of the list of refusals, behind the three of a file's length
 abbrev Listed : List Rule → Type 0
 Listed [] = Unit
-Listed (x ∷ xs) = ((1 ≤ x .number) × (x .number ≤ lastRefusal)) × Listed xs
+Listed (x ∷ xs) = ((4 ≤ x .number) × (x .number ≤ lastRefusal)) × Listed xs
 
-listed : (k : ℕ) (xs : List Rule) → Listed xs → ruled k xs ≡ true → (1 ≤ k) × (k ≤ lastRefusal)
+listed : (k : ℕ) (xs : List Rule) → Listed xs → ruled k xs ≡ true → (4 ≤ k) × (k ≤ lastRefusal)
 listed k [] l h = absurd (false≢true h)
 listed k (x ∷ xs) l h = by (x .applies) (eqb (x .number) k) refl h (listed k xs (l .1))
   where
-    by : (t u : Bool) → eqb (x .number) k ≡ u → (t && u || ruled k xs) ≡ true → (ruled k xs ≡ true → (1 ≤ k) × (k ≤ lastRefusal)) → (1 ≤ k) × (k ≤ lastRefusal)
+    by : (t u : Bool) → eqb (x .number) k ≡ u → (t && u || ruled k xs) ≡ true → (ruled k xs ≡ true → (4 ≤ k) × (k ≤ lastRefusal)) → (4 ≤ k) × (k ≤ lastRefusal)
     by true true e g ih = let z = eqb-true (x .number) k e in (omega arith, omega arith)
     by true false e g ih = ih g
     by false u e g ih = ih g
@@ -68,18 +73,30 @@ module _ (f : Form) (b : List ℕ) where
   count-pieces : length (pieces july f b) ≡ countOf recordSize f b
   count-pieces = length-chunks (widthOf recordSize f) (countOf recordSize f b) b
 
-  bounded : {a : Answer} → Ruled july f b a → CheckBounds (checkedOf a)
+  -- what applies to a record
+  pub record Applied (k i : ℕ) : Type 0 where
+    pub behind : 4 ≤ k
+    pub listed-there : k ≤ lastRefusal
+    pub within : i < length (pieces july f b)
+
+  pub applied : {k i : ℕ} → appliesIn july f (pieces july f b) k i ≡ true → Applied k i
   unfolding appliesIn
+  applied {k} {i} h =
+      let ps = pieces july f b in
+      let rules = rulesAfter july f (sinceOpening (map (recOf july) (take i ps))) (getD ps i []) in
+      let z = listed k rules (omega arith) (and-right (ltb i (length ps)) (ruled k rules) h) in
+      record { behind = z .0; listed-there = z .1; within = ltb-true i (length ps) (and-left (ltb i (length ps)) (ruled k rules) h) }
+
+  bounded : {a : Answer} → Ruled july f b a → CheckBounds (checkedOf a)
   bounded (line p e) = rw e (record { some = omega arith; listed = omega arith; near = omega arith })
   bounded (multiple p q e) = rw e (record { some = omega arith; listed = omega arith; near = omega arith })
   bounded (many p q r e) = rw e (record { some = omega arith; listed = omega arith; near = omega arith })
   bounded (records p q r (first k i h e)) =
-      let ps = pieces july f b in
       let few = ltb-false mostInFile (countOf recordSize f b) r in
-      let rules = rulesAfter july f (sinceOpening (map (recOf july) (take i ps))) (getD ps i []) in
-      let within = ltb-true i (length ps) (and-left (ltb i (length ps)) (ruled k rules) (h .here)) in
-      let z = listed k rules (omega arith) (and-right (ltb i (length ps)) (ruled k rules) (h .here)) in
-      rw e (record { some = z .0; listed = z .1; near = omega (arith, count-pieces) })
+      let z = applied (h .here) in
+      let y = z .behind in
+      let x = z .within in
+      rw e (record { some = omega arith; listed = z .listed-there; near = omega (arith, count-pieces) })
   bounded (records p q r (cut n i e)) =
       let few = ltb-false mostInFile (countOf recordSize f b) r in
       rw e (record { some = omega arith; listed = omega arith; near = omega arith })
@@ -213,3 +230,71 @@ module _ (j : List ℕ) (e : ℕ) where
       by : (r : Place) → r ≡ entryPlaceOf j e → EntryBounds r
       by (P.At x n) p = found p
       by (P.Refused n r) p = not-found p
+
+-- ---- an entry listed
+
+module _ (j : List ℕ) (e : ℕ) where
+  there : {x n : ℕ} → P.At x n ≡ listedPlaceOf j e → Lines x n
+  there p =
+      let s = place-listed j e p in
+      let f = s .first in
+      let l = s .len in
+      let i = s .inside in
+      let m = is-long (length j) (s .long) .most in
+      record { line = entryIn j (e - 1) .first; records = entryIn j (e - 1) .records; begins = f; runs = l; low = omega arith; few = omega arith }
+
+  not-there : {n r : ℕ} → P.Refused n r ≡ listedPlaceOf j e → Refusal n r
+  unfolding listedPlaceOf
+  not-there {n} {r} p = by _ _ (isLength (length j)) (eqb e 0) (entryIn j (e - 1) .used && leb (lineAt (entryIn j (e - 1) .first) + recordSize * entryIn j (e - 1) .records) (length j)) p
+    where
+      by : (x m : ℕ) (t u v : Bool) → P.Refused n r ≡ pick t (pick u (P.Refused 25 0) (pick v (P.At x m) (P.Refused 25 0))) (P.Refused 21 0) → Refusal n r
+      by x m false u v q = let a : n ≡ 21 = cc in let b : r ≡ 0 = cc in record { some = omega arith; listed = omega arith; near = omega arith }
+      by x m true true v q = let a : n ≡ 25 = cc in let b : r ≡ 0 = cc in record { some = omega arith; listed = omega arith; near = omega arith }
+      by x m true false false q = let a : n ≡ 25 = cc in let b : r ≡ 0 = cc in record { some = omega arith; listed = omega arith; near = omega arith }
+      by x m true false true q = absurd (let z : _≡_ {A = ℕ} 0 1 = cc in omega arith)
+
+  pub place-bounds : ListedBounds (listedPlaceOf j e)
+  place-bounds = by (listedPlaceOf j e) refl
+    where
+      by : (r : Place) → r ≡ listedPlaceOf j e → ListedBounds r
+      by (P.At x n) p = there p
+      by (P.Refused n r) p = not-there p
+
+  pub listed-bounds : (row : List ℕ) → ListedBounds (listedAnswer j e row)
+  listed-bounds row = by (listedPlaceOf j e) place-bounds (ltb (length row) rowSize) refl
+    where
+      by : (r : Place) → ListedBounds r → (t : Bool) → ltb (length row) rowSize ≡ t → ListedBounds (listedBy r (length row))
+      by (P.At x n) k true q = rw q (record { some = omega arith; listed = omega arith; near = omega arith })
+      by (P.At x n) k false q = rw q k
+      by (P.Refused n r) k t q = k
+
+-- ---- how much is used
+
+pub usage-bounds : (j : List ℕ) → UsageBounds (usageOf j)
+unfolding usageOf
+usage-bounds j = by (soundIn j) refl
+  where
+    by : (t : Bool) → soundIn j ≡ t
+        → UsageBounds (pick t (U.Counted (length (heldOf j)) (linesOf (heldOf j)) ((length j - tableSize) / recordSize)) (U.Refused 21 0))
+    by true p =
+        let g = sound-journal j p in
+        let n = journal-length g in
+        let z : (length j - tableSize) / recordSize ≡ g .lines = omega arith in
+        record { few-entries = g .kept .few; room = rw z (g .kept .room); few-lines = rw z (g .most) }
+    by false p = record { some = omega arith; listed = omega arith; near = omega arith }
+
+-- ---- a file's length
+
+pub length-bounds : (e n : ℕ) → LengthBounds (lengthAnswer e n)
+unfolding frameBy
+length-bounds e n = by (unknownEnd (form e)) (not (eqb (n % w) 0)) (ltb mostInFile (n / w)) refl
+  where
+    w : ℕ
+    w = widthOf recordSize (form e)
+
+    by : (a b c : Bool) → ltb mostInFile (n / w) ≡ c
+        → LengthBounds (pick a (F.Refused 1) (pick b (F.Refused 2) (pick c (F.Refused 3) (F.Records w (n / w)))))
+    by true b c q = record { some = omega arith; listed = omega arith; near = omega arith }
+    by false true c q = record { some = omega arith; listed = omega arith; near = omega arith }
+    by false false true q = record { some = omega arith; listed = omega arith; near = omega arith }
+    by false false false q = ltb-false mostInFile (n / w) q

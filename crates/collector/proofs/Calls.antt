@@ -2,14 +2,16 @@
 use mathlib.Core.Path.{_≡_}
 use mathlib.Core.List.{List}
 use Prim.Native.Nat.{ℕ}
+use Rattle.framing.specs.declared.Frame.{Frame}
 use Rattle.statements.specs.declared.Checked.{Checked}
 use Rattle.readers.specs.declared.Place.{Place}
 use Rattle.journal_layout.specs.declared.Opening.{Opening}
-use Rattle.journal_layout.specs.Test.{entryPlaceOf}
+use Rattle.journal_layout.specs.declared.Usage.{Usage}
+use Rattle.journal_layout.specs.Test.{entryPlaceOf, listedPlaceOf, usageOf}
 use Rattle.journal.specs.declared.Delivery.{Delivery}
-use Rattle.collector.specs.Bounds.{CheckBounds, OpeningBounds, DeliveryBounds, EntryBounds}
-use Rattle.collector.specs.Answers.{form, checkAnswer, openAnswer, deliverAnswer}
-use Rattle.collector.proofs.Bounds.{check-bounds, opening-bounds, delivery-bounds, entry-bounds}
+use Rattle.collector.specs.Bounds.{CheckBounds, OpeningBounds, DeliveryBounds, EntryBounds, ListedBounds, UsageBounds, LengthBounds}
+use Rattle.collector.specs.Answers.{form, checkAnswer, openAnswer, deliverAnswer, lengthAnswer}
+use Rattle.collector.proofs.Bounds.{check-bounds, opening-bounds, delivery-bounds, entry-bounds, place-bounds, usage-bounds, length-bounds}
 
 pub checked : (e : ℕ) (b : List ℕ) {r : Checked} → r ≡ checkAnswer e b → CheckBounds r
 checked e b p = rw p (check-bounds (form e) b)
@@ -22,3 +24,12 @@ delivered j e b p = rw p (delivery-bounds j (form e) b)
 
 pub placed : (j : List ℕ) (e : ℕ) {r : Place} → r ≡ entryPlaceOf j e → EntryBounds r
 placed j e p = rw p (entry-bounds j e)
+
+pub counted : (j : List ℕ) {r : Usage} → r ≡ usageOf j → UsageBounds r
+counted j p = rw p (usage-bounds j)
+
+pub listed : (j : List ℕ) (e : ℕ) {r : Place} → r ≡ listedPlaceOf j e → ListedBounds r
+listed j e p = rw p (place-bounds j e)
+
+pub measured : (e n : ℕ) {r : Frame} → r ≡ lengthAnswer e n → LengthBounds r
+measured e n p = rw p (length-bounds e n)

@@ -2,7 +2,7 @@
 use mathlib.Core.Path.{_≡_, sym, _∙_}
 use mathlib.Core.List.{List}
 use Prim.Native.Nat.{ℕ}
-use Rattle.collector.specs.Answers.{CheckNumber, OpenNumber, DeliverNumber, EntryNumber}
+use Rattle.collector.specs.Answers.{CheckNumber, OpenNumber, DeliverNumber, EntryNumber, UsedNumber, ListedNumber, LengthNumber}
 
 pub one-check : {e : ℕ} {b : List ℕ} {r q : ℕ} → CheckNumber e b r → CheckNumber e b q → r ≡ q
 one-check g h = g .answer ∙ sym (h .answer)
@@ -15,3 +15,12 @@ one-deliver g h = (g .answer ∙ sym (h .answer), g .content ∙ sym (h .content
 
 pub one-entry : {j : List ℕ} {e : ℕ} {r q : ℕ} → EntryNumber j e r → EntryNumber j e q → r ≡ q
 one-entry g h = g .answer ∙ sym (h .answer)
+
+pub one-used : {j : List ℕ} {r q : ℕ} → UsedNumber j r → UsedNumber j q → r ≡ q
+one-used g h = g .answer ∙ sym (h .answer)
+
+pub one-listed : {j : List ℕ} {e : ℕ} {w : List ℕ} {r q : ℕ} {x y : List ℕ} → ListedNumber j e w r x → ListedNumber j e w q y → (r ≡ q) × (x ≡ y)
+one-listed g h = (g .answer ∙ sym (h .answer), g .content ∙ sym (h .content))
+
+pub one-length : {e n r q : ℕ} → LengthNumber e n r → LengthNumber e n q → r ≡ q
+one-length g h = g .answer ∙ sym (h .answer)

@@ -1,9 +1,11 @@
 -- A packed number holds its whole answer: the fields fit, and unpacking gives the paper's answer back. So two different answers have different numbers.
 use mathlib.Core.Path.{_≡_, refl, sym, ap, _∙_}
 use mathlib.Core.List.{List}
-use Prim.Native.Nat.{ℕ, _+_, _-_, _*_, _/_}
+use Prim.Native.Nat.{ℕ, _+_, _-_, _*_, _/_, _≤_}
 use native.Mathlib.Omega.{arith}
-use Rattle.records.specs.July.{recordSize}
+use Rattle.framing.specs.declared.Frame.{Frame}
+use Rattle.framing.specs.declared.Frame.the-variants as F
+use Rattle.records.specs.July.{recordSize, mostInFile}
 use Rattle.statements.specs.declared.Checked.{Checked}
 use Rattle.statements.specs.declared.Checked.the-variants as C
 use Rattle.statements.specs.Answers.{paperCheck}
@@ -13,15 +15,17 @@ use Rattle.readers.specs.Answers.{paperPlace}
 use Rattle.entries.specs.Entries.{tableSize, lineAt}
 use Rattle.journal_layout.specs.declared.Opening.{Opening}
 use Rattle.journal_layout.specs.declared.Opening.the-variants as O
-use Rattle.journal_layout.specs.Answers.{paperOpening}
-use Rattle.journal_layout.specs.Test.{entryPlaceOf}
+use Rattle.journal_layout.specs.declared.Usage.{Usage}
+use Rattle.journal_layout.specs.declared.Usage.the-variants as U
+use Rattle.journal_layout.specs.Answers.{paperOpening, paperUsage}
+use Rattle.journal_layout.specs.Test.{entryPlaceOf, usageOf}
 use Rattle.journal.specs.declared.Delivery.{Delivery}
 use Rattle.journal.specs.declared.Delivery.the-variants as D
 use Rattle.journal.specs.Answers.{paperDelivery}
-use Rattle.collector.specs.Packing.{bit20, bit40, pack, aIn, bIn, cIn, kindIn, Fits, packedCheck, packedOpening, packedDelivery, packedEntry, checkedIn, openingIn, deliveryIn, placeIn}
-use Rattle.collector.specs.Bounds.{Refusal, Counted, Told, Body, CheckBounds, OpeningBounds, DeliveryBounds, EntryBounds}
-use Rattle.collector.specs.Answers.{form, checkAnswer, openAnswer, deliverAnswer, CheckNumber, OpenNumber, DeliverNumber, EntryNumber}
-use Rattle.collector.proofs.Bounds.{check-bounds, opening-bounds, delivery-bounds, entry-bounds}
+use Rattle.collector.specs.Packing.{bit20, bit40, pack, aIn, bIn, cIn, kindIn, Fits, packedCheck, packedOpening, packedDelivery, packedEntry, packedUsage, packedLength, checkedIn, openingIn, deliveryIn, placeIn, usageIn, lengthIn, paperLength}
+use Rattle.collector.specs.Bounds.{Refusal, Counted, Told, Body, Lines, Filled, CheckBounds, OpeningBounds, DeliveryBounds, EntryBounds, ListedBounds, UsageBounds, LengthBounds}
+use Rattle.collector.specs.Answers.{form, checkAnswer, openAnswer, deliverAnswer, listedAnswer, lengthAnswer, CheckNumber, OpenNumber, DeliverNumber, EntryNumber, UsedNumber, ListedNumber, LengthNumber}
+use Rattle.collector.proofs.Bounds.{check-bounds, opening-bounds, delivery-bounds, entry-bounds, listed-bounds, usage-bounds, length-bounds}
 
 -- ---- the four fields
 
@@ -72,13 +76,32 @@ told-fits k =
     let q = k .few-held in
     record { kind-fits = omega arith; a-fits = omega arith; b-fits = omega arith; c-fits = omega arith }
 
-pub body-fits : {x n : ℕ} → Body x n → Fits 0 (n / recordSize) ((x - tableSize) / recordSize) 0
-body-fits k =
+pub lines-fits : {x n : ℕ} → Lines x n → Fits 0 (n / recordSize) ((x - tableSize) / recordSize) 0
+lines-fits k =
     let p = k .begins in
     let q = k .runs in
     let r = k .low in
     let s = k .few in
     record { kind-fits = omega arith; a-fits = omega arith; b-fits = omega arith; c-fits = omega arith }
+
+body-lines : {x n : ℕ} → Body x n → Lines x n
+body-lines k =
+    let r = k .low in
+    let s = k .few in
+    record { line = k .line; records = k .records; begins = k .begins; runs = k .runs; low = omega arith; few = omega arith }
+
+pub body-fits : {x n : ℕ} → Body x n → Fits 0 (n / recordSize) ((x - tableSize) / recordSize) 0
+body-fits k = lines-fits (body-lines k)
+
+pub filled-fits : {e u l : ℕ} → Filled e u l → Fits 0 e u l
+filled-fits k =
+    let p = k .few-entries in
+    let q = k .room in
+    let r = k .few-lines in
+    record { kind-fits = omega arith; a-fits = omega arith; b-fits = omega arith; c-fits = omega arith }
+
+pub records-fits : {n : ℕ} → n ≤ mostInFile → Fits 0 n 0 0
+records-fits k = record { kind-fits = omega arith; a-fits = omega arith; b-fits = omega arith; c-fits = omega arith }
 
 -- ---- an answer within its bounds is unpacked as it was packed
 
@@ -94,15 +117,30 @@ pub delivery-back : (r : Delivery) → DeliveryBounds r → deliveryIn (packedDe
 delivery-back (D.Done s h) k = let f = told-fits k in rw (kind-back f, a-back f, b-back f)
 delivery-back (D.Refused n r) k = let f = refusal-fits k in rw (kind-back f, a-back f, b-back f)
 
-pub entry-back : (r : Place) → EntryBounds r → placeIn (packedEntry r) ≡ r
-entry-back (P.At x n) k =
-    let f = body-fits k in
+lines-back : {x n : ℕ} → Lines x n → placeIn (packedEntry (P.At x n)) ≡ P.At x n
+lines-back {x} {n} k =
+    let f = lines-fits k in
     let p = k .begins in
     let q = k .runs in
     let y : lineAt ((x - tableSize) / recordSize) ≡ x = omega arith in
     let z : recordSize * (n / recordSize) ≡ n = omega arith in
     rw (kind-back f, a-back f, b-back f) (cc)
+
+pub entry-back : (r : Place) → EntryBounds r → placeIn (packedEntry r) ≡ r
+entry-back (P.At x n) k = lines-back (body-lines k)
 entry-back (P.Refused n r) k = let f = refusal-fits k in rw (kind-back f, a-back f, b-back f)
+
+pub listed-back : (r : Place) → ListedBounds r → placeIn (packedEntry r) ≡ r
+listed-back (P.At x n) k = lines-back k
+listed-back (P.Refused n r) k = let f = refusal-fits k in rw (kind-back f, a-back f, b-back f)
+
+pub usage-back : (r : Usage) → UsageBounds r → usageIn (packedUsage r) ≡ r
+usage-back (U.Counted e u l) k = let f = filled-fits k in rw (kind-back f, a-back f, b-back f, c-back f)
+usage-back (U.Refused n r) k = let f = refusal-fits k in rw (kind-back f, a-back f, b-back f)
+
+pub length-back : (r : Frame) → LengthBounds r → lengthIn (packedLength r) ≡ paperLength r
+length-back (F.Records w n) k = let f = records-fits k in rw (kind-back f, a-back f)
+length-back (F.Refused n) k = let f = refusal-fits k in rw (kind-back f, a-back f, b-back f)
 
 -- ---- so an exported number is unpacked to the answer, and to the paper's answer
 
@@ -118,6 +156,12 @@ deliver-unpacked {j} {e} {b} g = ap deliveryIn (g .answer) ∙ delivery-back (de
 pub entry-unpacked : {j : List ℕ} {e n : ℕ} → EntryNumber j e n → placeIn n ≡ entryPlaceOf j e
 entry-unpacked {j} {e} g = ap placeIn (g .answer) ∙ entry-back (entryPlaceOf j e) (entry-bounds j e)
 
+pub used-unpacked : {j : List ℕ} {n : ℕ} → UsedNumber j n → usageIn n ≡ usageOf j
+used-unpacked {j} g = ap usageIn (g .answer) ∙ usage-back (usageOf j) (usage-bounds j)
+
+pub listed-unpacked : {j : List ℕ} {e : ℕ} {w : List ℕ} {n : ℕ} {w′ : List ℕ} → ListedNumber j e w n w′ → placeIn n ≡ listedAnswer j e w
+listed-unpacked {j} {e} {w} g = ap placeIn (g .answer) ∙ listed-back (listedAnswer j e w) (listed-bounds j e w)
+
 pub check-paper : {e : ℕ} {b : List ℕ} {n : ℕ} → CheckNumber e b n → paperCheck (checkedIn n) ≡ paperCheck (checkAnswer e b)
 check-paper g = ap paperCheck (check-unpacked g)
 
@@ -130,6 +174,16 @@ deliver-paper g = ap paperDelivery (deliver-unpacked g)
 
 pub entry-paper : {j : List ℕ} {e n : ℕ} → EntryNumber j e n → paperPlace (placeIn n) ≡ paperPlace (entryPlaceOf j e)
 entry-paper g = ap paperPlace (entry-unpacked g)
+
+pub used-paper : {j : List ℕ} {n : ℕ} → UsedNumber j n → paperUsage (usageIn n) ≡ paperUsage (usageOf j)
+used-paper g = ap paperUsage (used-unpacked g)
+
+pub listed-paper : {j : List ℕ} {e : ℕ} {w : List ℕ} {n : ℕ} {w′ : List ℕ} → ListedNumber j e w n w′ → paperPlace (placeIn n) ≡ paperPlace (listedAnswer j e w)
+listed-paper g = ap paperPlace (listed-unpacked g)
+
+-- the width of a record is the form's, and no part of the answer
+pub length-paper : {e m n : ℕ} → LengthNumber e m n → lengthIn n ≡ paperLength (lengthAnswer e m)
+length-paper {e} {m} g = ap lengthIn (g .answer) ∙ length-back (lengthAnswer e m) (length-bounds e m)
 
 -- ---- and one number stands for one answer: two different answers have different numbers
 
@@ -145,3 +199,13 @@ deliver-apart g h = sym (deliver-unpacked g) ∙ deliver-unpacked h
 
 pub entry-apart : {j i : List ℕ} {e d n : ℕ} → EntryNumber j e n → EntryNumber i d n → entryPlaceOf j e ≡ entryPlaceOf i d
 entry-apart g h = sym (entry-unpacked g) ∙ entry-unpacked h
+
+pub used-apart : {j i : List ℕ} {n : ℕ} → UsedNumber j n → UsedNumber i n → usageOf j ≡ usageOf i
+used-apart g h = sym (used-unpacked g) ∙ used-unpacked h
+
+pub listed-apart : {j i : List ℕ} {e d : ℕ} {w v : List ℕ} {n : ℕ} {x y : List ℕ} → ListedNumber j e w n x → ListedNumber i d v n y
+    → listedAnswer j e w ≡ listedAnswer i d v
+listed-apart g h = sym (listed-unpacked g) ∙ listed-unpacked h
+
+pub length-apart : {e d m l n : ℕ} → LengthNumber e m n → LengthNumber d l n → paperLength (lengthAnswer e m) ≡ paperLength (lengthAnswer d l)
+length-apart g h = sym (length-paper g) ∙ length-paper h

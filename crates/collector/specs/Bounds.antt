@@ -2,6 +2,8 @@
 use mathlib.Core.Path.{_≡_}
 use Prim.Native.Nat.{ℕ, _*_, _<_, _≤_}
 use Rattle.records.specs.July.{recordSize, mostInFile, mostInStatement}
+use Rattle.framing.specs.declared.Frame.{Frame}
+use Rattle.framing.specs.declared.Frame.the-variants as F
 use Rattle.statements.specs.declared.Checked.{Checked}
 use Rattle.statements.specs.declared.Checked.the-variants as C
 use Rattle.readers.specs.declared.Place.{Place}
@@ -9,6 +11,8 @@ use Rattle.readers.specs.declared.Place.the-variants as P
 use Rattle.entries.specs.Entries.{mostEntries, lineAt}
 use Rattle.journal_layout.specs.declared.Opening.{Opening}
 use Rattle.journal_layout.specs.declared.Opening.the-variants as O
+use Rattle.journal_layout.specs.declared.Usage.{Usage}
+use Rattle.journal_layout.specs.declared.Usage.the-variants as U
 use Rattle.journal_layout.specs.Layout.{mostLines}
 use Rattle.journal.specs.declared.Delivery.{Delivery}
 use Rattle.journal.specs.declared.Delivery.the-variants as D
@@ -41,6 +45,20 @@ pub record Body (first len : ℕ) : Type 0 where
   pub low : line < mostLines
   pub few : records ≤ mostInStatement
 
+-- the same of any bytes, sound or not
+pub record Lines (first len : ℕ) : Type 0 where
+  pub line : ℕ
+  pub records : ℕ
+  pub begins : first ≡ lineAt line
+  pub runs : len ≡ recordSize * records
+  pub low : line ≤ mostLines
+  pub few : records ≤ mostLines
+
+pub record Filled (entries used lines : ℕ) : Type 0 where
+  pub few-entries : entries ≤ mostEntries
+  pub room : used ≤ lines
+  pub few-lines : lines ≤ mostLines
+
 abbrev pub CheckBounds : Checked → Type 0
 CheckBounds (C.Accepted s m c) = Counted s m c
 CheckBounds (C.Refused n r) = Refusal n r
@@ -56,3 +74,15 @@ DeliveryBounds (D.Refused n r) = Refusal n r
 abbrev pub EntryBounds : Place → Type 0
 EntryBounds (P.At x n) = Body x n
 EntryBounds (P.Refused n r) = Refusal n r
+
+abbrev pub ListedBounds : Place → Type 0
+ListedBounds (P.At x n) = Lines x n
+ListedBounds (P.Refused n r) = Refusal n r
+
+abbrev pub UsageBounds : Usage → Type 0
+UsageBounds (U.Counted e u l) = Filled e u l
+UsageBounds (U.Refused n r) = Refusal n r
+
+abbrev pub LengthBounds : Frame → Type 0
+LengthBounds (F.Records w n) = n ≤ mostInFile
+LengthBounds (F.Refused n) = Refusal n 0

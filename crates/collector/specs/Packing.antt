@@ -4,12 +4,15 @@
 --            a       | b        | c        | kind
 --
 -- Kind 0, answered: the check's statements, movements and complements; opening all 0; the delivery's stored and held; an entry's number of
--- records and first body line. Kind 1, refused: a is the record, b the refusal's number, c is 0.
+-- records and first body line, listed or not; the entries used, the body lines used and those in all; the records of a file of some length.
+-- Kind 1, refused: a is the record, b the refusal's number, c is 0.
 use mathlib.Core.Bool.{Bool}
 use Prim.Native.Nat.{ℕ, _+_, _-_, _*_, _/_, _%_, _<_}
 use lib.Dec.{eqb}
 use Rattle.zones.specs.Choice.{pick}
 use Rattle.records.specs.July.{recordSize}
+use Rattle.framing.specs.declared.Frame.{Frame}
+use Rattle.framing.specs.declared.Frame.the-variants as F
 use Rattle.statements.specs.declared.Checked.{Checked}
 use Rattle.statements.specs.declared.Checked.the-variants as C
 use Rattle.readers.specs.declared.Place.{Place}
@@ -17,6 +20,8 @@ use Rattle.readers.specs.declared.Place.the-variants as P
 use Rattle.entries.specs.Entries.{tableSize, lineAt}
 use Rattle.journal_layout.specs.declared.Opening.{Opening}
 use Rattle.journal_layout.specs.declared.Opening.the-variants as O
+use Rattle.journal_layout.specs.declared.Usage.{Usage}
+use Rattle.journal_layout.specs.declared.Usage.the-variants as U
 use Rattle.journal.specs.declared.Delivery.{Delivery}
 use Rattle.journal.specs.declared.Delivery.the-variants as D
 
@@ -77,6 +82,15 @@ abbrev pub packedEntry : Place → ℕ
 packedEntry (P.At x n) = answered (n / recordSize) ((x - tableSize) / recordSize) 0
 packedEntry (P.Refused n r) = refused n r
 
+abbrev pub packedUsage : Usage → ℕ
+packedUsage (U.Counted e u l) = answered e u l
+packedUsage (U.Refused n r) = refused n r
+
+-- a refused length has no record
+abbrev pub packedLength : Frame → ℕ
+packedLength (F.Records w n) = answered n 0 0
+packedLength (F.Refused n) = refused n 0
+
 -- and back
 abbrev pub isAnswer : ℕ → Bool
 isAnswer n = eqb (kindIn n) 0
@@ -92,3 +106,19 @@ deliveryIn n = pick (isAnswer n) (D.Done (aIn n) (bIn n)) (D.Refused (bIn n) (aI
 
 abbrev pub placeIn : ℕ → Place
 placeIn n = pick (isAnswer n) (P.At (lineAt (bIn n)) (recordSize * aIn n)) (P.Refused (bIn n) (aIn n))
+
+abbrev pub usageIn : ℕ → Usage
+usageIn n = pick (isAnswer n) (U.Counted (aIn n) (bIn n) (cIn n)) (U.Refused (bIn n) (aIn n))
+
+-- number, record and number of records; zero where the paper says zero
+pub record PaperLength : Type 0 where
+  pub number : ℕ
+  pub at : ℕ
+  pub records : ℕ
+
+abbrev pub paperLength : Frame → PaperLength
+paperLength (F.Records w n) = record { number = 0; at = 0; records = n }
+paperLength (F.Refused n) = record { number = n; at = 0; records = 0 }
+
+abbrev pub lengthIn : ℕ → PaperLength
+lengthIn n = pick (isAnswer n) (record { number = 0; at = 0; records = aIn n }) (record { number = bIn n; at = aIn n; records = 0 })

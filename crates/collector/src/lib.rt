@@ -1,10 +1,12 @@
 // What the collector's host program calls. Each function answers one number that holds its whole answer, by `specs/Packing.antt`.
 ghost use mathlib.Core.Path.{_≡_};
 ghost use Rattle.collector.specs.Packing.{Fits, pack as packOf, answered as answeredOf, refused as refusedOf};
-ghost use Rattle.collector.specs.Answers.{CheckNumber, OpenNumber, DeliverNumber, EntryNumber};
+ghost use Rattle.collector.specs.Answers.{CheckNumber, OpenNumber, DeliverNumber, EntryNumber, UsedNumber, ListedNumber, LengthNumber};
 use framing::Form;
+use framing::Frame;
 use journal::Delivery;
 use journal_layout::Opening;
+use journal_layout::Usage;
 use readers::Place;
 use statements::Checked;
 
@@ -77,5 +79,48 @@ pub extern "C" fn crownhazel_entry(journal: &[u8], entry: u64) -> u64
             answered((len / 120) as u64, ((first - 7680) / 120) as u64, 0)
         }
         Place::Refused { number, record } => refused(number, record),
+    }
+}
+
+// The entries used, the body lines used, and the body lines in all.
+#[no_mangle]
+pub extern "C" fn crownhazel_used(journal: &[u8]) -> u64
+    ensures { λ r. ⌜ UsedNumber (now (journal .entry)) r ⌝ }
+{
+    match journal_layout::used(journal) {
+        Usage::Counted {
+            entries,
+            used,
+            lines,
+        } => answered(entries, used, lines),
+        Usage::Refused { number, record } => refused(number, record),
+    }
+}
+
+// The same numbers as of an entry, without the sound test, and the entry's row in the first bytes of `row`.
+#[no_mangle]
+pub extern "C" fn crownhazel_listed(journal: &[u8], entry: u64, row: &mut [u8]) -> u64
+    ensures { λ r. ⌜ ListedNumber (now (journal .entry)) entry (now (row .entry)) r (now (row .exit)) ⌝ }
+{
+    match journal_layout::listed_place(journal, entry) {
+        Place::At { first, len } => {
+            if row.len() < 41 {
+                return refused(20, 0);
+            }
+            entries::put_row(&mut row[0..41], journal, (entry - 1) as usize);
+            answered((len / 120) as u64, ((first - 7680) / 120) as u64, 0)
+        }
+        Place::Refused { number, record } => refused(number, record),
+    }
+}
+
+// The number of records of a file of some length: the refusals 1 to 3, which its bytes have no say in.
+#[no_mangle]
+pub extern "C" fn crownhazel_length(line_end: u64, length: u64) -> u64
+    ensures { λ r. ⌜ LengthNumber «line_end» length r ⌝ }
+{
+    match framing::cut_length(Form { line_end }, 120, 20000, length as usize) {
+        Frame::Records { width: _, count } => answered(count as u64, 0, 0),
+        Frame::Refused(number) => refused(number, 0),
     }
 }

@@ -1,0 +1,40 @@
+use mathlib.Core.Path.{sym, ap, _∙_}
+use Rattle.collector.specs.Packing.{packedLength}
+use Rattle.collector.proofs.Packing.{records-fits, refusal-fits}
+use Rattle.collector.proofs.Calls.{measured}
+use borrow.Author.Needs.{needs}
+use Rattle.collector.proofs.crownhazel_length.Statement.{statement}
+use Rattle.collector.proofs.crownhazel_length.Tie as tie
+
+cut-length-requires : tie.Need-cut-length-requires
+cut-length-requires c κs = search needs
+
+enum-known-count : tie.Need-enum-known-count
+enum-known-count c = search needs
+
+answered-requires : tie.Need-answered-requires
+answered-requires c κs = records-fits (measured (c .before .before .before .before .args .line-end) (c .before .before .before .before .args .length) (sym (c .before .count .given .1) ∙ c .before .before .before .cut-length .ensures .answer))
+
+enum-known-number : tie.Need-enum-known-number
+enum-known-number c = search needs
+
+refused-requires : tie.Need-refused-requires
+refused-requires c κs = refusal-fits (measured (c .before .before .before .before .args .line-end) (c .before .before .before .before .args .length) (sym (c .before .number .given .1) ∙ c .before .before .before .cut-length .ensures .answer))
+
+returns : tie.Need-returns
+returns c = record { answer = c .answered .ensures ∙ ap packedLength (sym (c .before .before .count .given .1) ∙ c .before .before .before .before .cut-length .ensures .answer) }
+
+returns-2 : tie.Need-returns-2
+returns-2 c = record { answer = c .refused .ensures ∙ ap packedLength (sym (c .before .before .number .given .1) ∙ c .before .before .before .before .cut-length .ensures .answer) }
+
+pub crownhazel-length-spec : {M : Type 1} → statement M
+crownhazel-length-spec =
+    tie.close
+    (tie.spec
+    cut-length-requires
+    enum-known-count
+    answered-requires
+    enum-known-number
+    refused-requires
+    returns
+    returns-2)
