@@ -1,109 +1,347 @@
+#define _GNU_SOURCE
 #include "arguments.h"
 
+#include <getopt.h>
+#include <stdio.h>
+#include <stdlib.h>
 #include <string.h>
 
+#include "commands.h"
+#include "crownhazel.h"
 #include "say.h"
+#include "status.h"
 
-/* The words that are still to be looked at, and those that are no options, moved to the front. */
-struct words {
-    char **all;
-    size_t count;
-    size_t next;
-    size_t kept;
-    bool options_end; /* after '--' */
+enum { MOST_WAIT = 999999, NO_FILES = 99 };
+
+struct option_form {
+    unsigned option;
+    const char *name;
+    const char *value; /* what its value is called; NULL where it has none */
+    const char *help;
 };
 
-static bool is_option(const struct words *words, const char *word) {
-    return !words->options_end && word[0] == '-' && word[1] != '\0';
-}
+static const struct option_form options[] = {
+    {OPTION_LINE_END, "line-end", "WHICH",
+     "what stands after each record: none, lf, crlf or auto;\n"
+     "auto, the default, looks at the file"},
+    {OPTION_BLANK_EXISTING, "blank-existing", NULL,
+     "blanks a sound journal that exists: what it holds is gone.\n"
+     "Without it, and for every other file, a name that is taken\nis refused"},
+    {OPTION_MODE, "mode", "OCTAL", "the new journal's rights, as 640; without it they are 600"},
+    {OPTION_WAIT, "wait", "SECONDS",
+     "gives up after so many seconds where another command\n"
+     "holds the journal; without it, waits as long as it takes"},
+    {OPTION_HELP, "help", NULL, "prints this and does nothing else; -h is the same"},
+};
 
-/* The value of '--line-end VALUE' or '--line-end=VALUE'; NULL where there is none. */
-static const char *value_of(struct words *words, const char *word) {
-    const char *sign = strchr(word, '=');
-    if (sign != NULL) {
-        return sign + 1;
+enum { OPTIONS = sizeof options / sizeof options[0] };
+
+static const struct subcommand subcommands[] = {
+    {.name = "open",
+     .operands = "JOURNAL LINES",
+     .summary = "makes a journal with room for so many records",
+     .text = "Makes a journal with LINES body lines, 0 to 100000; each record of a statement takes one.\n"
+             "\n"
+             "Prints 'JOURNAL: opened, lines LINES'.\n",
+     .options = OPTION_BLANK_EXISTING | OPTION_MODE | OPTION_WAIT,
+     .least = 2,
+     .most = 2,
+     .first_file = NO_FILES,
+     .run = open_command},
+    {.name = "check",
+     .operands = "FILE..",
+     .summary = "judges files",
+     .text = "Judges each file by all rules. - is standard input.\n"
+             "\n"
+             "Prints 'FILE: statements S, movements M, complements C' for each file that is accepted.\n",
+     .options = OPTION_LINE_END,
+     .least = 1,
+     .most = SIZE_MAX,
+     .first_file = 0,
+     .run = check_command},
+    {.name = "deliver",
+     .operands = "JOURNAL FILE..",
+     .summary = "stores the statements that the journal does not hold yet",
+     .text = "Stores of each file the statements that the journal does not hold yet: all of them or, where it\n"
+             "is refused, none. - is standard input. A file can be delivered again at any time.\n"
+             "\n"
+             "Prints 'FILE: stored S, held H' for each file, when its statements are safe on the disk.\n",
+     .options = OPTION_LINE_END | OPTION_WAIT,
+     .least = 2,
+     .most = SIZE_MAX,
+     .first_file = 1,
+     .run = deliver_command},
+    {.name = "entries",
+     .operands = "JOURNAL",
+     .summary = "lists the statements that the journal holds",
+     .text = "Prints a line for each statement that the journal holds, in order of first arrival:\n"
+             "number, bank, branch, currency, decimals, account, old date, new date, first line, records.\n",
+     .least = 1,
+     .most = 1,
+     .first_file = NO_FILES,
+     .run = entries_command},
+    {.name = "status",
+     .operands = "JOURNAL",
+     .summary = "says how full the journal is",
+     .text = "Tests whether the journal is sound, and says how much of it is used and free.\n"
+             "\n"
+             "Prints 'JOURNAL: sound, accounts A, entries used E, free F, lines used L, free M'.\n",
+     .least = 1,
+     .most = 1,
+     .first_file = NO_FILES,
+     .run = status_command},
+    {.name = "show",
+     .operands = "FILE",
+     .summary = "lists the statements and movements of a file",
+     .text = "Lists the statements (S) and movements (M) of a file, by the proved listing program. - is standard\n"
+             "input. At most 65,340 bytes with LF line ends, which is 540 records.\n"
+             "\n"
+             "CROWNHAZEL_LISTING in the environment names another listing program.\n",
+     .options = OPTION_LINE_END,
+     .least = 1,
+     .most = 1,
+     .first_file = 0,
+     .run = show_command},
+    {.name = "grow",
+     .operands = "JOURNAL LINES",
+     .summary = "gives the journal more lines",
+     .text = "Gives a journal LINES body lines in all, up to 100000. It holds the same statements.\n"
+             "\n"
+             "Prints 'JOURNAL: grown, lines LINES', when the journal is safe on the disk.\n",
+     .options = OPTION_WAIT,
+     .least = 2,
+     .most = 2,
+     .first_file = NO_FILES,
+     .run = grow_command},
+    {.name = "backup",
+     .operands = "JOURNAL COPY",
+     .summary = "copies a sound journal, with a checksum",
+     .text = "Copies a sound journal to a new file, and writes its checksum to COPY.sha256, which\n"
+             "'sha256sum -c' reads in the folder of the copy. A file that exists is refused.\n"
+             "\n"
+             "Prints 'COPY: entries E, checksum COPY.sha256', when both are safe on the disk.\n",
+     .least = 2,
+     .most = 2,
+     .first_file = NO_FILES,
+     .run = backup_command},
+    {.name = "restore",
+     .operands = "JOURNAL COPY",
+     .summary = "puts a copy in the place of the journal",
+     .text = "Puts a copy that is sound and matches its checksum, COPY.sha256, in the place of the journal. What\n"
+             "stood there is kept beside it as JOURNAL.replaced-N. Deliver again what came since the copy.\n"
+             "\n"
+             "Prints 'JOURNAL: restored, entries E, lacking L, kept PATH', when it is safe on the disk. The copy\n"
+             "lacks L statements of what was replaced, 'unknown' where that was not sound; where there was no\n"
+             "journal, the line ends after E.\n",
+     .options = OPTION_WAIT,
+     .least = 2,
+     .most = 2,
+     .first_file = NO_FILES,
+     .run = restore_command},
+};
+
+static const char command_text[] =
+    "Checks bank statements in files of 120-character CFONB records and keeps them in a journal:\n"
+    "send it twice, store it once.\n";
+
+static const char status_text[] =
+    "Exit status: 0 done, 1 the file is refused, 2 usage, 3 system, 4 the journal cannot take it now,\n"
+    "5 the journal is not sound; of several the worst, in the order 5, 3, 2, 4, 1.\n";
+
+const struct subcommand *subcommand_named(const char *name) {
+    for (size_t i = 0; i < sizeof subcommands / sizeof subcommands[0]; i++) {
+        if (strcmp(name, subcommands[i].name) == 0) {
+            return &subcommands[i];
+        }
     }
-    return words->next < words->count ? words->all[words->next++] : NULL;
+    return NULL;
 }
 
-static bool take_line_end(struct words *words, const char *word, struct arguments *arguments) {
-    const char *value = value_of(words, word);
-    if (value != NULL && line_end_named(value, &arguments->line_end)) {
-        return true;
+bool read_number(const char *text, size_t most, size_t *number) {
+    enum { MOST_DIGITS = 9 };
+    size_t digits = strspn(text, "0123456789");
+    *number = (size_t)strtoul(text, NULL, 10);
+    return digits > 0 && digits <= MOST_DIGITS && text[digits] == '\0' && *number <= most;
+}
+
+/* Rights in octal digits: read and write alone, and both for the owner, who has to be able to deliver. */
+static bool read_mode(const char *text, mode_t *mode) {
+    size_t digits = strspn(text, "01234567");
+    *mode = (mode_t)strtoul(text, NULL, 8);
+    return digits >= 3 && digits <= 4 && text[digits] == '\0' && (*mode & ~(mode_t)0666) == 0 && (*mode & 0600) == 0600;
+}
+
+static bool takes(const struct subcommand *subcommand, const struct option_form *form) {
+    return ((subcommand->options | OPTION_HELP) & form->option) != 0;
+}
+
+/* Takes one option with its value. */
+static bool take_option(const struct option_form *form, const char *value, struct arguments *arguments) {
+    const char *wanted = NULL;
+    size_t number = 0;
+    switch (form->option) {
+    case OPTION_HELP: arguments->help = true; break;
+    case OPTION_BLANK_EXISTING: arguments->blank_existing = true; break;
+    case OPTION_LINE_END: wanted = line_end_named(value, &arguments->line_end) ? NULL : "none, lf, crlf or auto"; break;
+    case OPTION_MODE:
+        arguments->has_mode = true;
+        wanted = read_mode(value, &arguments->mode) ? NULL : "octal, reading and writing alone, as 600, 640 or 660";
+        break;
+    case OPTION_WAIT:
+        arguments->has_wait = true;
+        wanted = read_number(value, MOST_WAIT, &number) ? NULL : "a whole number of seconds from 0 to 999999";
+        arguments->wait = (unsigned)number;
+        break;
     }
-    complain(arguments->form->subcommand, "--line-end is none, lf, crlf or auto");
-    return false;
+    if (wanted != NULL) {
+        complain(arguments->subcommand->name, "--%s is %s", form->name, wanted);
+    }
+    return wanted == NULL;
 }
 
-static bool is_line_end(const char *word) {
-    return strcmp(word, "--line-end") == 0 || strncmp(word, "--line-end=", 11) == 0;
+/* The subcommand's options for getopt_long: each answers its place in the table. */
+static void list_options(const struct subcommand *subcommand, struct option listed[OPTIONS + 1]) {
+    size_t count = 0;
+    for (int i = 0; i < OPTIONS; i++) {
+        if (takes(subcommand, &options[i])) {
+            int value = options[i].value != NULL ? required_argument : no_argument;
+            listed[count++] = (struct option){options[i].name, value, NULL, i};
+        }
+    }
+    listed[count] = (struct option){0};
 }
 
-static bool take_option(struct words *words, const char *word, struct arguments *arguments) {
-    const struct form *form = arguments->form;
-    if (strcmp(word, "--") == 0) {
-        words->options_end = true;
-    } else if (strcmp(word, "--help") == 0) {
-        arguments->help = true;
-    } else if (form->takes_blank_existing && strcmp(word, "--blank-existing") == 0) {
-        arguments->blank_existing = true;
-    } else if (form->takes_line_end && is_line_end(word)) {
-        return take_line_end(words, word, arguments);
+/* getopt_long names a letter that is no option; a whole word is the one that it has just passed. */
+static void no_option(const struct subcommand *subcommand, const char *word) {
+    if (optopt >= ' ') {
+        complain(subcommand->name, "it has no option -%c", optopt);
     } else {
-        complain(form->subcommand, "it has no option %s", word);
-        return false;
+        complain(subcommand->name, "it has no option %s", word);
     }
-    return true;
 }
 
-static bool take_words(struct words *words, struct arguments *arguments) {
-    while (words->next < words->count) {
-        char *word = words->all[words->next++];
-        if (!is_option(words, word)) {
-            words->all[words->kept++] = word;
-        } else if (!take_option(words, word, arguments)) {
+static bool take_options(int count, char **words, struct arguments *arguments) {
+    const struct subcommand *subcommand = arguments->subcommand;
+    struct option listed[OPTIONS + 1];
+    int found;
+    list_options(subcommand, listed);
+    opterr = 0;
+    while ((found = getopt_long(count, words, ":h", listed, NULL)) != -1) {
+        if (found == '?') {
+            no_option(subcommand, words[optind - 1]);
+            return false;
+        }
+        if (found == ':') {
+            complain(subcommand->name, "%s wants a value", words[optind - 1]);
+            return false;
+        }
+        if (found == 'h') {
+            arguments->help = true;
+        } else if (!take_option(&options[found], optarg, arguments)) {
             return false;
         }
     }
     return true;
 }
 
-/* Standard input can be read once, and is no journal. */
+/* Standard input can be read once, and is no journal and no copy. */
 static bool standard_input_fits(const struct arguments *arguments) {
     size_t times = 0;
-    for (size_t i = 0; i < arguments->file_count; i++) {
-        times += is_standard_input(arguments->files[i]);
+    for (size_t i = 0; i < arguments->count; i++) {
+        bool named = is_standard_input(arguments->operands[i]);
+        if (named && i < arguments->subcommand->first_file) {
+            complain(arguments->subcommand->name, "standard input is no journal; a file of that name is ./-");
+            return false;
+        }
+        times += named;
     }
     if (times > 1) {
-        complain(arguments->form->subcommand, "standard input is named more than once");
-        return false;
+        complain(arguments->subcommand->name, "standard input is named more than once");
     }
-    if (arguments->form->names > 0 && is_standard_input(arguments->names[0])) {
-        complain(arguments->form->subcommand, "standard input is no journal; a file of that name is ./-");
-        return false;
-    }
-    return true;
+    return times <= 1;
 }
 
-bool take_apart(const struct form *form, size_t count, char **words, struct arguments *arguments) {
-    struct words left = {.all = words, .count = count};
-    *arguments = (struct arguments){.form = form, .line_end = AUTO};
-    if (!take_words(&left, arguments)) {
+static bool operands_fit(const struct arguments *arguments) {
+    if (arguments->count < arguments->subcommand->least) {
+        complain(arguments->subcommand->name, "too few arguments");
         return false;
     }
-    if (arguments->help) {
-        return true;
-    }
-    if (left.kept < form->names + form->least_files) {
-        complain(form->subcommand, "too few arguments");
+    if (arguments->count > arguments->subcommand->most) {
+        complain(arguments->subcommand->name, "too many arguments");
         return false;
     }
-    if (left.kept - form->names > form->most_files) {
-        complain(form->subcommand, "too many arguments");
-        return false;
-    }
-    arguments->names = words;
-    arguments->files = words + form->names;
-    arguments->file_count = left.kept - form->names;
     return standard_input_fits(arguments);
+}
+
+bool take_apart(const struct subcommand *subcommand, int count, char **words, struct arguments *arguments) {
+    *arguments = (struct arguments){.subcommand = subcommand, .line_end = LINE_END_AUTO};
+    if (!take_options(count, words, arguments)) {
+        return false;
+    }
+    arguments->operands = words + optind;
+    arguments->count = (size_t)(count - optind);
+    return arguments->help || operands_fit(arguments);
+}
+
+/* The option as the help shows it, in its usage or before its own words. */
+static void spell_option(const struct option_form *form, char shown[32]) {
+    snprintf(shown, 32, "--%s%s%s", form->name, form->value == NULL ? "" : " ", form->value == NULL ? "" : form->value);
+}
+
+/* An option and its words, which can have several lines. */
+static void describe_option(FILE *out, const struct option_form *form) {
+    char shown[32];
+    spell_option(form, shown);
+    for (const char *line = form->help; line != NULL;) {
+        const char *end = strchrnul(line, '\n');
+        fprintf(out, "  %-18s %.*s\n", line == form->help ? shown : "", (int)(end - line), line);
+        line = *end == '\0' ? NULL : end + 1;
+    }
+}
+
+static void write_subcommand_help(FILE *out, const struct subcommand *subcommand) {
+    char shown[32];
+    fprintf(out, "usage: crownhazel %s", subcommand->name);
+    for (int i = 0; i < OPTIONS; i++) {
+        if ((subcommand->options & options[i].option) != 0) {
+            spell_option(&options[i], shown);
+            fprintf(out, " [%s]", shown);
+        }
+    }
+    fprintf(out, " %s\n%s\n", subcommand->operands, subcommand->text);
+    for (int i = 0; i < OPTIONS; i++) {
+        if (takes(subcommand, &options[i])) {
+            describe_option(out, &options[i]);
+        }
+    }
+    fprintf(out, "\n%s", status_text);
+}
+
+static void write_command_help(FILE *out) {
+    char form[48];
+    fprintf(out, "usage: crownhazel SUBCOMMAND ..\n%s\n", command_text);
+    for (size_t i = 0; i < sizeof subcommands / sizeof subcommands[0]; i++) {
+        snprintf(form, sizeof form, "%s %s", subcommands[i].name, subcommands[i].operands);
+        fprintf(out, "  %-24s %s\n", form, subcommands[i].summary);
+    }
+    fprintf(out, "  %-24s %s\n  %-24s %s\n\n", "help [SUBCOMMAND]", "prints this, or says more; -h and --help do too",
+            "-V, --version", "prints the version");
+    fprintf(out, "FILE can be -, standard input.\n%s", status_text);
+}
+
+int print_help(const struct subcommand *subcommand) {
+    char *text = NULL;
+    size_t length = 0;
+    FILE *out = open_memstream(&text, &length);
+    if (out == NULL) {
+        return failed("help", "no memory");
+    }
+    if (subcommand != NULL) {
+        write_subcommand_help(out, subcommand);
+    } else {
+        write_command_help(out);
+    }
+    int status = fclose(out) == 0 ? answer_text(text, length) : failed("help", "no memory");
+    free(text);
+    return status;
 }

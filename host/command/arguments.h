@@ -1,34 +1,61 @@
-/* The command line, taken apart. */
+/* The command line: what each subcommand takes, in one table that also makes the help, and how it is taken apart. */
 #ifndef COMMAND_ARGUMENTS_H
 #define COMMAND_ARGUMENTS_H
 
 #include <stdbool.h>
 #include <stddef.h>
+#include <stdint.h>
+#include <sys/types.h>
 
 #include "input.h"
 
-/* What a subcommand takes. */
-struct form {
-    const char *subcommand;
-    const char *help;
-    size_t names;        /* names before the files: JOURNAL, LINES */
-    size_t least_files;
-    size_t most_files;
-    bool takes_line_end;
-    bool takes_blank_existing;
+/* The options, as bits of what a subcommand takes. Every subcommand takes --help. */
+enum {
+    OPTION_LINE_END = 1 << 0,
+    OPTION_BLANK_EXISTING = 1 << 1,
+    OPTION_MODE = 1 << 2,
+    OPTION_WAIT = 1 << 3,
+    OPTION_HELP = 1 << 4
 };
 
+struct arguments;
+
+/* What a subcommand is called, says of itself and takes. */
+struct subcommand {
+    const char *name;
+    const char *operands;   /* as the help shows them */
+    const char *summary;    /* its line in the help of the command */
+    const char *text;       /* its own help */
+    unsigned options;       /* a bit for each */
+    size_t least, most;     /* operands */
+    size_t first_file;      /* which operands, from this one on, are files that can be standard input */
+    int (*run)(const struct arguments *arguments);
+};
+
+/* The command line, taken apart. */
 struct arguments {
-    const struct form *form;
-    char **names;
-    char **files;
-    size_t file_count;
+    const struct subcommand *subcommand;
+    char **operands;
+    size_t count;
     enum line_end line_end;
     bool blank_existing;
+    bool has_mode;
+    mode_t mode;
+    bool has_wait;
+    unsigned wait; /* seconds */
     bool help;
 };
 
-/* Takes apart what stands after the subcommand, in place. False with a message for a mistake. */
-bool take_apart(const struct form *form, size_t count, char **words, struct arguments *arguments);
+/* The subcommand of that name; NULL where there is none. */
+const struct subcommand *subcommand_named(const char *name);
+
+/* Takes apart what the command was called with, the subcommand's name first. False with a message for a mistake. */
+bool take_apart(const struct subcommand *subcommand, int count, char **words, struct arguments *arguments);
+
+/* Prints the help of a subcommand, or of the command where it is NULL. Answers a status. */
+int print_help(const struct subcommand *subcommand);
+
+/* A whole number in digits, at most so large. */
+bool read_number(const char *text, size_t most, size_t *number);
 
 #endif

@@ -1,10 +1,7 @@
-#define _DEFAULT_SOURCE
 #include "bytes.h"
 
 #include <errno.h>
 #include <stdlib.h>
-#include <string.h>
-#include <sys/mman.h>
 #include <unistd.h>
 
 enum { FIRST_ROOM = 65536 };
@@ -48,7 +45,7 @@ bool read_up_to(int descriptor, size_t most, struct bytes *bytes) {
     return true;
 }
 
-bool count_rest(int descriptor, size_t *count) {
+bool count_rest(int descriptor, uint64_t *count) {
     uint8_t unkept[FIRST_ROOM];
     *count = 0;
     for (;;) {
@@ -56,20 +53,8 @@ bool count_rest(int descriptor, size_t *count) {
         if (now <= 0) {
             return now == 0;
         }
-        *count += (size_t)now;
+        *count += (uint64_t)now;
     }
-}
-
-bool stretch(struct bytes *bytes, size_t length) {
-    int flags = MAP_PRIVATE | MAP_ANONYMOUS | MAP_NORESERVE;
-    uint8_t *first = mmap(NULL, length, PROT_READ | PROT_WRITE, flags, -1, 0);
-    if (first == MAP_FAILED) {
-        return false;
-    }
-    memcpy(first, bytes->first, bytes->length);
-    let_go(bytes);
-    *bytes = (struct bytes){first, length, length, true};
-    return true;
 }
 
 bool write_whole(int descriptor, const void *first, size_t length) {
@@ -100,10 +85,6 @@ bool close_after(bool good, int descriptor) {
 }
 
 void let_go(struct bytes *bytes) {
-    if (bytes->mapped) {
-        munmap(bytes->first, bytes->room);
-    } else {
-        free(bytes->first);
-    }
+    free(bytes->first);
     *bytes = (struct bytes){0};
 }

@@ -11,7 +11,6 @@ struct bytes {
     uint8_t *first;
     size_t length;
     size_t room;
-    bool mapped; /* made by stretch */
 };
 
 /* Each gives false with errno set where it fails. */
@@ -23,10 +22,7 @@ bool make_room(struct bytes *bytes, size_t room);
 bool read_up_to(int descriptor, size_t most, struct bytes *bytes);
 
 /* Reads to the end and counts, without keeping what it reads. */
-bool count_rest(int descriptor, size_t *count);
-
-/* Makes the bytes so long. Those that are added read as zeros and take no memory. */
-bool stretch(struct bytes *bytes, size_t length);
+bool count_rest(int descriptor, uint64_t *count);
 
 bool write_whole(int descriptor, const void *first, size_t length);
 

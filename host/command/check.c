@@ -7,23 +7,23 @@
 #include "status.h"
 
 static int check_file(const char *name, enum line_end chosen) {
-    struct bytes file;
-    if (!read_input(name, &file)) {
-        return SYSTEM;
+    struct input input;
+    if (!read_input(name, chosen, &input)) {
+        return STATUS_SYSTEM;
     }
-    uint64_t checked = crownhazel_check(line_end_of(&file, chosen), file.first, file.length);
-    let_go(&file);
-    if (crownhazel_is_refused(checked)) {
-        return refused(name, crownhazel_refusal(checked), crownhazel_record(checked), NULL);
+    uint64_t found = checked(&input);
+    let_go(&input.kept);
+    if (crownhazel_is_refused(found)) {
+        return refused(name, crownhazel_refusal(found), crownhazel_record(found));
     }
     return answer(name, "statements %" PRIu32 ", movements %" PRIu32 ", complements %" PRIu32,
-                  crownhazel_statements(checked), crownhazel_movements(checked), crownhazel_complements(checked));
+                  crownhazel_statements(found), crownhazel_movements(found), crownhazel_complements(found));
 }
 
 int check_command(const struct arguments *arguments) {
-    int status = DONE;
-    for (size_t i = 0; i < arguments->file_count; i++) {
-        status = worse(status, check_file(arguments->files[i], arguments->line_end));
+    int status = STATUS_DONE;
+    for (size_t i = 0; i < arguments->count; i++) {
+        status = worse(status, check_file(arguments->operands[i], arguments->line_end));
     }
     return status;
 }

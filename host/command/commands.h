@@ -8,6 +8,10 @@ int open_command(const struct arguments *arguments);
 int check_command(const struct arguments *arguments);
 int deliver_command(const struct arguments *arguments);
 int entries_command(const struct arguments *arguments);
+int status_command(const struct arguments *arguments);
 int show_command(const struct arguments *arguments);
+int grow_command(const struct arguments *arguments);
+int backup_command(const struct arguments *arguments);
+int restore_command(const struct arguments *arguments);
 
 #endif

@@ -2,85 +2,86 @@
 #include <inttypes.h>
 
 #include "commands.h"
+#include "contents.h"
 #include "crownhazel.h"
 #include "journal.h"
 #include "say.h"
 #include "status.h"
 
-/* A file to be delivered. */
-struct delivery {
-    const char *name;
-    const struct bytes *file;
-    uint64_t line_end;
-};
+/* What the delivery says of the file, to the journal in memory. One that is not kept whole is refused for its length,
+ * where the journal itself is sound. */
+static uint64_t delivered_to(struct bytes *journal, const struct input *input) {
+    if (is_whole(input)) {
+        return crownhazel_deliver(journal->first, journal->length, input->line_end, input->kept.first,
+                                  input->kept.length);
+    }
+    uint64_t used = crownhazel_used(journal->first, journal->length);
+    return crownhazel_is_refused(used) ? used : checked(input);
+}
 
 /* What was stored is brought to the disk, and so is what was held: the run that stored it can have been killed before
- * its name was safe. An empty file leaves nothing to do. */
+ * it was safe. An empty file leaves nothing to do. */
 static int keep(const struct place *place, const struct bytes *journal, uint64_t delivered) {
     if (crownhazel_stored(delivered) > 0) {
-        return replace_journal(place, journal);
+        return replace_journal(place, journal, NULL);
     }
-    return crownhazel_held(delivered) > 0 ? settle_journal(place) : DONE;
+    return crownhazel_held(delivered) > 0 ? settle_journal(place) : STATUS_DONE;
 }
 
-/* Delivers to a copy of the journal in memory. The lock is held. */
-static int deliver_locked(struct place *place, const struct delivery *delivery, uint64_t *delivered) {
-    struct bytes journal;
-    if (!read_journal(place, &journal)) {
-        return SYSTEM;
-    }
-    const struct bytes *file = delivery->file;
-    *delivered = crownhazel_deliver(journal.first, journal.length, delivery->line_end, file->first, file->length);
-    int status;
-    if (crownhazel_is_refused(*delivered)) {
-        status = refused(delivery->name, crownhazel_refusal(*delivered), crownhazel_record(*delivered), place->name);
-    } else {
-        status = keep(place, &journal, *delivered);
-    }
-    let_go(&journal);
-    return status;
+/* Delivers to a copy of the journal in memory. The locks are held, and let go before anything is said of the file. */
+static int deliver_held(const struct place *place, struct bytes *journal, const struct input *input,
+                        uint64_t *delivered) {
+    *delivered = delivered_to(journal, input);
+    return crownhazel_is_refused(*delivered) ? STATUS_DONE : keep(place, journal, *delivered);
 }
 
-static int deliver_to(const char *journal, const struct delivery *delivery, uint64_t *delivered) {
+static int deliver_input(const struct arguments *arguments, const struct input *input, uint64_t *delivered) {
     struct place place;
-    if (!find_existing_journal(journal, &place)) {
-        return SYSTEM;
+    struct bytes journal;
+    struct patience patience = patience_of(arguments);
+    size_t lines = 0;
+    int status = find_existing_journal(arguments->operands[0], &place);
+    if (status != STATUS_DONE) {
+        return status;
     }
-    int status = SYSTEM;
-    int lock = lock_journal(&place);
-    if (lock >= 0) {
-        status = deliver_locked(&place, delivery, delivered);
-        unlock_journal(lock);
+    status = hold_journal(&place, &patience, &journal);
+    if (status == STATUS_DONE) {
+        lines = lines_of(&journal);
+        status = deliver_held(&place, &journal, input, delivered);
+        let_go(&journal);
     }
     leave_place(&place);
+    if (status == STATUS_DONE && crownhazel_is_refused(*delivered)) {
+        return refused_by(input->name, *delivered, arguments->operands[0], lines);
+    }
     return status;
 }
 
 /* The file is read before the lock is taken: a slow pipe holds up nobody else. The answer comes last, when all of it
  * is on the disk. */
-static int deliver_file(const char *journal, const char *name, enum line_end chosen) {
-    struct bytes file;
+static int deliver_file(const struct arguments *arguments, const char *name) {
+    struct input input;
     uint64_t delivered = 0;
-    if (!read_input(name, &file)) {
-        return SYSTEM;
+    if (!read_input(name, arguments->line_end, &input)) {
+        return STATUS_SYSTEM;
     }
-    struct delivery delivery = {name, &file, line_end_of(&file, chosen)};
-    int status = deliver_to(journal, &delivery, &delivered);
-    let_go(&file);
-    if (status != DONE) {
+    int status = deliver_input(arguments, &input, &delivered);
+    let_go(&input.kept);
+    if (status != STATUS_DONE) {
         return status;
     }
     return answer(name, "stored %" PRIu32 ", held %" PRIu32, crownhazel_stored(delivered), crownhazel_held(delivered));
 }
 
 int deliver_command(const struct arguments *arguments) {
-    int status = DONE;
-    for (size_t i = 0; i < arguments->file_count; i++) {
-        if (arguments->file_count > 1) {
-            show_progress(i, arguments->file_count);
+    int status = STATUS_DONE;
+    size_t files = arguments->count - 1;
+    for (size_t i = 0; i < files; i++) {
+        if (files > 1) {
+            show_passing("%zu of %zu files", i, files);
         }
-        status = worse(status, deliver_file(arguments->names[0], arguments->files[i], arguments->line_end));
+        status = worse(status, deliver_file(arguments, arguments->operands[i + 1]));
     }
-    wipe_progress();
+    wipe_passing();
     return status;
 }

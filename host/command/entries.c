@@ -1,65 +1,80 @@
-/* Lists what a journal holds. */
+/* Lists what a journal holds, and says how full it is. */
+#define _GNU_SOURCE
 #include <inttypes.h>
 #include <stdio.h>
+#include <stdlib.h>
 
 #include "commands.h"
-#include "crownhazel.h"
+#include "contents.h"
 #include "journal.h"
 #include "say.h"
 #include "status.h"
 
-enum {
-    ENTRY = 60,        /* bytes of an entry in the table of contents */
-    OLD_DATE = 25,     /* where its dates stand, counted from 0 */
-    NEW_DATE = 31,
-    NO_SUCH_ENTRY = 25 /* the refusal that ends the list */
-};
-
-/* DDMMYY as YYYY-MM-DD: the years 80 to 99 are 1980 to 1999. */
-static void spell_date(const char *date, char spelt[11]) {
-    const char *century = date[4] >= '8' ? "19" : "20";
-    snprintf(spelt, 11, "%s%.2s-%.2s-%.2s", century, date + 4, date + 2, date);
-}
-
-/* The library has said that the entry is there, so the journal is sound and key and dates stand in their places. */
-static int print_entry(const struct bytes *journal, uint64_t number, uint64_t found) {
-    const char *entry = (const char *)journal->first + (number - 1) * ENTRY;
-    char line[128], old_date[11], new_date[11];
-    spell_date(entry + OLD_DATE, old_date);
-    spell_date(entry + NEW_DATE, new_date);
-    int length = snprintf(line, sizeof line, "%" PRIu64 " %.5s %.5s %.3s %.1s %.11s %s %s %" PRIu32 " %" PRIu32 "\n",
-                          number, entry, entry + 5, entry + 10, entry + 13, entry + 14, old_date, new_date,
-                          crownhazel_first_line(found), crownhazel_records(found));
-    return answer_text(line, (size_t)length);
-}
-
-static int print_entries(const char *name, const struct bytes *journal) {
-    for (uint64_t number = 1;; number++) {
-        uint64_t found = crownhazel_entry(journal->first, journal->length, number);
-        if (!crownhazel_is_refused(found)) {
-            if (print_entry(journal, number, found) != DONE) {
-                return SYSTEM;
-            }
-        } else if (crownhazel_refusal(found) == NO_SUCH_ENTRY) {
-            return DONE;
-        } else {
-            return refused(name, crownhazel_refusal(found), crownhazel_record(found), name);
-        }
-    }
-}
-
-/* No lock: the file is read as a whole, and a delivery puts another one in its place. */
-int entries_command(const struct arguments *arguments) {
+/* Reads a journal and takes what it holds. No lock: the file is read as a whole, and a delivery puts another one in its
+ * place. */
+static int look_into(const char *name, struct contents *contents) {
     struct place place;
     struct bytes journal;
-    if (!find_existing_journal(arguments->names[0], &place)) {
-        return SYSTEM;
+    int status = find_existing_journal(name, &place);
+    if (status != STATUS_DONE) {
+        return status;
     }
-    int status = SYSTEM;
-    if (read_journal(&place, &journal)) {
-        status = print_entries(place.name, &journal);
+    status = read_journal(&place, &journal);
+    if (status == STATUS_DONE) {
+        uint64_t used = read_contents(&journal, contents);
+        if (crownhazel_is_refused(used)) {
+            status = refused_by(name, used, name, lines_of(&journal));
+        }
         let_go(&journal);
     }
     leave_place(&place);
     return status;
+}
+
+static void write_date(FILE *out, const uint8_t *date) {
+    const char *text = (const char *)date;
+    fprintf(out, " %.4s-%.2s-%.2s", text, text + 4, text + 6);
+}
+
+static void write_entry(FILE *out, size_t number, const struct entry *entry) {
+    const char *row = (const char *)entry->row;
+    fprintf(out, "%zu %.5s %.5s %.3s %.1s %.11s", number, row + ROW_BANK, row + ROW_BRANCH, row + ROW_CURRENCY,
+            row + ROW_DECIMALS, row + ROW_ACCOUNT);
+    write_date(out, entry->row + ROW_OLD_DATE);
+    write_date(out, entry->row + ROW_NEW_DATE);
+    fprintf(out, " %" PRIu32 " %" PRIu32 "\n", entry->first_line, entry->records);
+}
+
+static int print_entries(const char *name, const struct contents *contents) {
+    char *text = NULL;
+    size_t length = 0;
+    FILE *out = open_memstream(&text, &length);
+    if (out == NULL) {
+        return failed(name, "no memory for the list");
+    }
+    for (size_t i = 0; i < contents->count; i++) {
+        write_entry(out, i + 1, &contents->entries[i]);
+    }
+    int status = fclose(out) == 0 ? answer_text(text, length) : failed(name, "no memory for the list");
+    free(text);
+    return status;
+}
+
+int entries_command(const struct arguments *arguments) {
+    const char *name = arguments->operands[0];
+    struct contents contents;
+    int status = look_into(name, &contents);
+    return status == STATUS_DONE ? print_entries(name, &contents) : status;
+}
+
+int status_command(const struct arguments *arguments) {
+    const char *name = arguments->operands[0];
+    struct contents contents;
+    int status = look_into(name, &contents);
+    if (status != STATUS_DONE) {
+        return status;
+    }
+    return answer(name, "sound, accounts %zu, entries used %zu, free %zu, lines used %zu, free %zu",
+                  accounts_in(&contents), contents.count, CROWNHAZEL_MOST_ENTRIES - contents.count,
+                  contents.lines_used, contents.lines - contents.lines_used);
 }

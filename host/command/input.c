@@ -4,13 +4,16 @@
 #include <errno.h>
 #include <fcntl.h>
 #include <string.h>
+#include <sys/stat.h>
 #include <unistd.h>
 
 #include "crownhazel.h"
 #include "say.h"
 
-/* Bytes of the longest file that can be accepted: 20,000 records with CR LF. */
-enum { MOST_FILE = 20000 * (CROWNHAZEL_RECORD + 2) };
+enum {
+    MOST_FILE = CROWNHAZEL_MOST_RECORDS * (CROWNHAZEL_RECORD + 2), /* bytes of the longest file, with CR LF */
+    TELLING = CROWNHAZEL_RECORD + 1                                /* bytes that show the line end */
+};
 
 bool line_end_named(const char *name, enum line_end *line_end) {
     static const char *const names[] = {"none", "lf", "crlf", "auto"};
@@ -27,15 +30,28 @@ bool is_standard_input(const char *name) {
     return strcmp(name, "-") == 0;
 }
 
-static bool read_all(int descriptor, struct bytes *file) {
-    size_t rest = 0;
-    if (!read_up_to(descriptor, MOST_FILE, file)) {
-        return false;
+/* How many bytes of a regular file are still to be read; 0 for all others, whose length shows at their end. */
+static uint64_t known_length(int descriptor) {
+    struct stat status;
+    if (fstat(descriptor, &status) != 0 || !S_ISREG(status.st_mode)) {
+        return 0;
     }
-    if (file->length == MOST_FILE && !count_rest(descriptor, &rest)) {
-        return false;
+    off_t at = lseek(descriptor, 0, SEEK_CUR);
+    return at >= 0 && at < status.st_size ? (uint64_t)(status.st_size - at) : 0;
+}
+
+/* A regular file that is too long is not read to its end: its length is known. */
+static bool read_all(int descriptor, struct input *input) {
+    uint64_t rest = 0;
+    uint64_t known = known_length(descriptor);
+    if (known > MOST_FILE) {
+        input->length = known;
+        return read_up_to(descriptor, TELLING, &input->kept);
     }
-    return rest == 0 || stretch(file, file->length + rest);
+    bool good = read_up_to(descriptor, MOST_FILE, &input->kept) &&
+                (input->kept.length < MOST_FILE || count_rest(descriptor, &rest));
+    input->length = input->kept.length + rest;
+    return good;
 }
 
 /* Opens, and again where a signal came first: the opening of a pipe waits. */
@@ -47,40 +63,50 @@ static int open_to_read(const char *name) {
     return descriptor;
 }
 
-static bool read_named(const char *name, struct bytes *file) {
+static bool read_named(const char *name, struct input *input) {
     int descriptor = open_to_read(name);
-    return descriptor >= 0 && close_after(read_all(descriptor, file), descriptor);
-}
-
-bool read_input(const char *name, struct bytes *file) {
-    *file = (struct bytes){0};
-    bool good = is_standard_input(name) ? read_all(STDIN_FILENO, file) : read_named(name, file);
-    if (!good) {
-        failed(name, "cannot be read");
-        let_go(file);
-    }
-    return good;
+    return descriptor >= 0 && close_after(read_all(descriptor, input), descriptor);
 }
 
 /* The first line end whose lines the length is made of; none where it is made of no whole lines. */
-static uint64_t by_length(size_t length) {
-    for (uint64_t line_end = NONE; line_end <= CRLF; line_end++) {
+static uint64_t by_length(uint64_t length) {
+    for (uint64_t line_end = LINE_END_NONE; line_end <= LINE_END_CRLF; line_end++) {
         if (length % (CROWNHAZEL_RECORD + line_end) == 0) {
             return line_end;
         }
     }
-    return NONE;
+    return LINE_END_NONE;
 }
 
 /* The byte after the first record tells for every file that can be accepted. The length is for the others: it finds
  * the refusal that says most. */
-uint64_t line_end_of(const struct bytes *file, enum line_end chosen) {
-    if (chosen != AUTO) {
+static uint64_t line_end_of(const struct input *input, enum line_end chosen) {
+    if (chosen != LINE_END_AUTO) {
         return (uint64_t)chosen;
     }
-    uint8_t after = file->length > CROWNHAZEL_RECORD ? file->first[CROWNHAZEL_RECORD] : 0;
+    uint8_t after = input->kept.length > CROWNHAZEL_RECORD ? input->kept.first[CROWNHAZEL_RECORD] : 0;
     if (after == '\n') {
-        return LF;
+        return LINE_END_LF;
     }
-    return after == '\r' ? CRLF : by_length(file->length);
+    return after == '\r' ? LINE_END_CRLF : by_length(input->length);
+}
+
+bool read_input(const char *name, enum line_end chosen, struct input *input) {
+    *input = (struct input){.name = name};
+    if (is_standard_input(name) ? read_all(STDIN_FILENO, input) : read_named(name, input)) {
+        input->line_end = line_end_of(input, chosen);
+        return true;
+    }
+    failed(name, "cannot be read");
+    let_go(&input->kept);
+    return false;
+}
+
+bool is_whole(const struct input *input) {
+    return input->length == input->kept.length;
+}
+
+uint64_t checked(const struct input *input) {
+    return is_whole(input) ? crownhazel_check(input->line_end, input->kept.first, input->kept.length)
+                           : crownhazel_length(input->line_end, input->length);
 }

@@ -9,7 +9,7 @@
 #include "bytes.h"
 
 /* The library's line-end numbers, and the choice to look at the file. */
-enum line_end { NONE = 0, LF = 1, CRLF = 2, AUTO = 3 };
+enum line_end { LINE_END_NONE = 0, LINE_END_LF = 1, LINE_END_CRLF = 2, LINE_END_AUTO = 3 };
 
 /* The name of a line end on the command line; false where there is none of that name. */
 bool line_end_named(const char *name, enum line_end *line_end);
@@ -17,13 +17,23 @@ bool line_end_named(const char *name, enum line_end *line_end);
 /* Whether a FILE is standard input. */
 bool is_standard_input(const char *name);
 
-/* Reads the file. The bytes are the caller's to let go. False with a message where it cannot be read.
- *
- * No more than the longest file that can be accepted is kept. Of a longer one the rest is counted, and reads as zeros:
- * it is refused for its length alone, 2 or 3, so an endless file costs time but no memory. */
-bool read_input(const char *name, struct bytes *file);
+/* A file that was read. Of one that is longer than any that can be accepted only the beginning is kept: it is refused
+ * for its length alone. */
+struct input {
+    const char *name;
+    struct bytes kept;
+    uint64_t length;   /* of the whole file */
+    uint64_t line_end; /* the line-end number to read it with */
+};
 
-/* The line-end number to read the file with: the one that was chosen or, for AUTO, what the file shows. */
-uint64_t line_end_of(const struct bytes *file, enum line_end chosen);
+/* Reads the file: what it keeps is the caller's to let go. The line end is the one that was chosen, or what the file
+ * shows. False with a message where it cannot be read. */
+bool read_input(const char *name, enum line_end chosen, struct input *input);
+
+/* Whether the whole file is kept. */
+bool is_whole(const struct input *input);
+
+/* What the check says of the file: of one that is not kept whole, the refusal of its length. */
+uint64_t checked(const struct input *input);
 
 #endif

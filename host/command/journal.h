@@ -1,49 +1,42 @@
-/* A journal's file: found, locked, read, replaced. It only ever holds a whole journal, the old one or the new. */
+/* A journal's file: read, replaced. It only ever holds a whole journal, the old one or the new. */
 #ifndef COMMAND_JOURNAL_H
 #define COMMAND_JOURNAL_H
 
 #include <stdbool.h>
-#include <sys/stat.h>
 
 #include "bytes.h"
+#include "lock.h"
+#include "place.h"
+#include "rights.h"
 
-/* Where a journal stands, symbolic links followed, and the names beside it. */
-struct place {
-    const char *name; /* as it was given, for messages */
-    char *path;
-    char *lock;       /* JOURNAL.lock: whoever changes the journal holds it. It is never removed */
-    char *fresh;      /* JOURNAL.new: a new journal while it is written */
-    char *folder;
-    bool exists;
-    struct stat status; /* of the file, where it exists */
-};
+/* Each answers a status, with a message where it is not STATUS_DONE. */
 
-/* Each gives false with a message where it fails. */
+/* Reads a journal that exists, without a lock. One that is too long is read until that shows. */
+int read_journal(struct place *place, struct bytes *journal);
 
-/* Finds a journal. One that does not exist has its place too; one that is no regular file has none. */
-bool find_journal(const char *name, struct place *place);
+/* Takes the locks of a journal that exists, and reads it. Where it fails the place is still to be left. */
+int hold_journal(struct place *place, const struct patience *patience, struct bytes *journal);
 
-/* Finds a journal that exists. */
-bool find_existing_journal(const char *name, struct place *place);
+/* A journal that does not exist yet: takes JOURNAL.lock, with these rights. */
+int hold_name(struct place *place, const struct patience *patience, mode_t mode);
 
-void leave_place(struct place *place);
+/* These want the locks. */
 
-/* Waits for the lock, which ends with the descriptor. Negative where it fails. */
-int lock_journal(const struct place *place);
-void unlock_journal(int lock);
+/* Puts a new journal in the place of the one that was read, with these rights or, for NULL, the old one's. */
+int replace_journal(const struct place *place, const struct bytes *journal, const mode_t *mode);
 
-/* Reads a journal that exists, and what its file is now. One that is too long is read until that shows. */
-bool read_journal(struct place *place, struct bytes *journal);
+/* Puts a new journal where there is none. STATUS_USAGE, without a message, where there is a file by now. */
+int create_journal(const struct place *place, const struct bytes *journal, mode_t mode);
 
-/* These answer a status, with a message where it is SYSTEM. The lock is held. */
-
-/* Puts a new journal in the place of the old one, with its mode and, as far as permitted, its owner. */
-int replace_journal(const struct place *place, const struct bytes *journal);
-
-/* Puts a new journal where there is none. REFUSED, without a message, where there is a file by now. */
-int create_journal(const struct place *place, const struct bytes *journal);
-
-/* Waits until the journal's name is on the disk. */
+/* Waits until the journal that was read, and its name, are on the disk. */
 int settle_journal(const struct place *place);
+
+/* For files beside journals. */
+
+/* Brings bytes to the disk through a descriptor. False with errno where it fails. */
+bool write_to_disk(int descriptor, const struct bytes *bytes);
+
+/* Brings the names in a folder to the disk. */
+int sync_folder(const char *name, const char *folder);
 
 #endif

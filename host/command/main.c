@@ -1,31 +1,15 @@
-/* crownhazel: bank statements checked, kept in a journal and listed.
- * Exit status: 0 done, 1 refused, 2 usage, 3 system. */
+/* crownhazel: bank statements checked, kept in a journal and listed. */
 #define _DEFAULT_SOURCE
 #include <fcntl.h>
 #include <signal.h>
-#include <stdint.h>
 #include <string.h>
 #include <unistd.h>
 
-#include "commands.h"
-#include "help.h"
+#include "arguments.h"
 #include "say.h"
 #include "status.h"
 
-static const char version[] = "crownhazel 0.1.0\n";
-
-struct subcommand {
-    struct form form;
-    int (*run)(const struct arguments *arguments);
-};
-
-static const struct subcommand subcommands[] = {
-    {{"open", open_help, 2, 0, 0, false, true}, open_command},
-    {{"check", check_help, 0, 1, SIZE_MAX, true, false}, check_command},
-    {{"deliver", deliver_help, 1, 1, SIZE_MAX, true, false}, deliver_command},
-    {{"entries", entries_help, 1, 0, 0, false, false}, entries_command},
-    {{"show", show_help, 0, 1, 1, true, false}, show_command},
-};
+static const char version[] = "crownhazel " VERSION "\n";
 
 /* A closed descriptor would be given to the next file that is opened, and an answer written into it. What stands in
  * for it here cannot be read or written, so that its use is a failure with a message. */
@@ -41,36 +25,50 @@ static bool fill_descriptors(void) {
 
 static int usage(void) {
     complain("usage", "crownhazel SUBCOMMAND ..; 'crownhazel --help' says more");
-    return USAGE;
+    return STATUS_USAGE;
 }
 
-static int run(const struct subcommand *subcommand, size_t count, char **words) {
+static int no_subcommand(const char *word) {
+    complain(word, "no subcommand");
+    return usage();
+}
+
+static int run(const struct subcommand *subcommand, int count, char **words) {
     struct arguments arguments;
-    if (!take_apart(&subcommand->form, count, words, &arguments)) {
-        complain("usage", "'crownhazel %s --help' says more", subcommand->form.subcommand);
-        return USAGE;
+    if (!take_apart(subcommand, count, words, &arguments)) {
+        complain("usage", "'crownhazel %s --help' says more", subcommand->name);
+        return STATUS_USAGE;
     }
-    if (arguments.help) {
-        return answer_text(subcommand->form.help, strlen(subcommand->form.help));
-    }
-    return subcommand->run(&arguments);
+    return arguments.help ? print_help(subcommand) : subcommand->run(&arguments);
 }
 
-/* The first word is a subcommand or one of the two options that stand alone. */
-static int run_words(size_t count, char **words) {
-    if (strcmp(words[0], "--help") == 0) {
-        return answer_text(command_help, strlen(command_help));
+/* 'help', or 'help SUBCOMMAND'. */
+static int help(int count, char **words) {
+    const struct subcommand *subcommand = count > 1 ? subcommand_named(words[1]) : NULL;
+    if (count > 2) {
+        complain("help", "too many arguments");
+        return usage();
     }
-    if (strcmp(words[0], "--version") == 0) {
+    return count > 1 && subcommand == NULL ? no_subcommand(words[1]) : print_help(subcommand);
+}
+
+static bool is_one_of(const char *word, const char *one, const char *other) {
+    return strcmp(word, one) == 0 || strcmp(word, other) == 0;
+}
+
+/* The first word is a subcommand, a request for help or for the version. */
+static int run_words(int count, char **words) {
+    if (is_one_of(words[0], "-h", "--help")) {
+        return print_help(NULL);
+    }
+    if (is_one_of(words[0], "-V", "--version")) {
         return answer_text(version, strlen(version));
     }
-    for (size_t i = 0; i < sizeof subcommands / sizeof subcommands[0]; i++) {
-        if (strcmp(words[0], subcommands[i].form.subcommand) == 0) {
-            return run(&subcommands[i], count - 1, words + 1);
-        }
+    if (strcmp(words[0], "help") == 0) {
+        return help(count, words);
     }
-    complain(words[0], "no subcommand");
-    return usage();
+    const struct subcommand *subcommand = subcommand_named(words[0]);
+    return subcommand == NULL ? no_subcommand(words[0]) : run(subcommand, count, words);
 }
 
 /* A reader that goes away and a file that may not grow are failures of a write, not the end of the command. */
@@ -80,5 +78,5 @@ int main(int count, char **words) {
     if (!fill_descriptors()) {
         return failed("/dev/null", "nothing stands in for a closed descriptor");
     }
-    return count < 2 ? usage() : run_words((size_t)count - 1, words + 1);
+    return count < 2 ? usage() : run_words(count - 1, words + 1);
 }

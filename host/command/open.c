@@ -1,79 +1,65 @@
 /* Makes a blank journal. */
-#include <stdlib.h>
-#include <string.h>
-
+#include "blank.h"
 #include "commands.h"
+#include "contents.h"
 #include "crownhazel.h"
 #include "journal.h"
 #include "say.h"
 #include "status.h"
 
-/* A number of at most six digits. */
-static bool read_number(const char *text, size_t *number) {
-    size_t digits = strspn(text, "0123456789");
-    *number = (size_t)strtoul(text, NULL, 10);
-    return digits > 0 && digits <= 6 && text[digits] == '\0';
-}
-
-/* A blank journal in memory. Which numbers of lines a journal can have is for the library to say. */
-static int make_blank(const char *lines, struct bytes *journal) {
-    size_t number = 0;
-    bool right = read_number(lines, &number);
-    size_t length = CROWNHAZEL_CONTENTS + CROWNHAZEL_RECORD * number;
-    *journal = (struct bytes){0};
-    if (right && !make_room(journal, length)) {
-        return failed("open", "no memory for the journal");
-    }
-    journal->length = length;
-    if (!right || crownhazel_is_refused(crownhazel_open(journal->first, length))) {
-        complain("open", "LINES is a whole number from 0 to %d", CROWNHAZEL_MOST_LINES);
-        let_go(journal);
-        return USAGE;
-    }
-    return DONE;
-}
+enum { PRIVATE = 0600 };
 
 static int exists_already(const char *name) {
-    complain(name, "exists already and stays as it is; --blank-existing blanks it, and what it holds is gone");
-    return REFUSED;
+    complain(name, "exists already and stays as it is; --blank-existing blanks a journal, and what it holds is gone");
+    return STATUS_USAGE;
 }
 
-static int write_blank(const struct place *place, const struct bytes *journal) {
-    int lock = lock_journal(place);
-    if (lock < 0) {
-        return SYSTEM;
-    }
-    int status = place->exists ? replace_journal(place, journal) : create_journal(place, journal);
-    unlock_journal(lock);
-    return status == REFUSED ? exists_already(place->name) : status;
-}
-
-static int open_place(const struct place *place, const struct bytes *journal) {
-    int status = write_blank(place, journal);
-    if (status != DONE) {
+/* Only a sound journal is blanked: any other file is something else, or a journal to be restored. */
+static int blank(struct place *place, const struct patience *patience, const struct bytes *journal, const mode_t *mode) {
+    struct bytes old;
+    int status = hold_journal(place, patience, &old);
+    if (status != STATUS_DONE) {
         return status;
     }
-    return answer(place->name, "opened, lines %zu", (journal->length - CROWNHAZEL_CONTENTS) / CROWNHAZEL_RECORD);
+    uint64_t used = crownhazel_used(old.first, old.length);
+    status = crownhazel_is_refused(used) ? refused_by(place->name, used, place->name, lines_of(&old))
+                                         : replace_journal(place, journal, mode);
+    let_go(&old);
+    return status;
 }
 
-static int open_named(const char *name, const struct bytes *journal, bool blank_existing) {
-    struct place place;
-    if (!find_journal(name, &place)) {
-        return SYSTEM;
+static int create(struct place *place, const struct patience *patience, const struct bytes *journal, mode_t mode) {
+    int status = hold_name(place, patience, mode);
+    if (status != STATUS_DONE) {
+        return status;
     }
-    bool taken = place.exists && !blank_existing;
-    int status = taken ? exists_already(name) : open_place(&place, journal);
-    leave_place(&place);
-    return status;
+    status = create_journal(place, journal, mode);
+    return status == STATUS_USAGE ? exists_already(place->name) : status;
+}
+
+static int open_place(const struct arguments *arguments, struct place *place, const struct bytes *journal) {
+    struct patience patience = patience_of(arguments);
+    mode_t mode = arguments->has_mode ? arguments->mode : PRIVATE;
+    if (!place->exists) {
+        return create(place, &patience, journal, mode);
+    }
+    return arguments->blank_existing ? blank(place, &patience, journal, arguments->has_mode ? &mode : NULL)
+                                     : exists_already(place->name);
 }
 
 int open_command(const struct arguments *arguments) {
     struct bytes journal;
-    int status = make_blank(arguments->names[1], &journal);
-    if (status != DONE) {
+    struct place place;
+    int status = make_blank("open", arguments->operands[1], &journal);
+    if (status != STATUS_DONE) {
         return status;
     }
-    status = open_named(arguments->names[0], &journal, arguments->blank_existing);
+    status = find_journal(arguments->operands[0], &place);
+    if (status == STATUS_DONE) {
+        status = open_place(arguments, &place, &journal);
+        leave_place(&place);
+    }
+    size_t lines = lines_of(&journal);
     let_go(&journal);
-    return status;
+    return status == STATUS_DONE ? answer(arguments->operands[0], "opened, lines %zu", lines) : status;
 }

@@ -11,34 +11,29 @@
 
 #include "bytes.h"
 #include "crownhazel.h"
+#include "spelling.h"
 #include "status.h"
 
-/* The width of the line of progress that stands on the terminal; 0 where there is none. */
-static int progress_width;
+/* The width of the passing line that stands on the terminal; 0 where there is none. */
+static int passing_width;
 
-/* A control character would break the line in two. The last byte is the line's own end. */
-static void clean(char *line) {
-    for (char *at = line; at[0] != '\0' && at[1] != '\0'; at++) {
-        if ((unsigned char)*at < ' ' || *at == 127) {
-            *at = '?';
-        }
-    }
-}
-
-/* Head, name, ': ', text, line feed; NULL where there is no memory. */
+/* Head, name, ': ', text, all spelt, and a line feed; NULL where there is no memory. */
 static char *compose(const char *head, const char *name, const char *format, va_list values) {
     char *text = NULL;
+    char *plain = NULL;
     char *line = NULL;
     if (vasprintf(&text, format, values) < 0) {
         return NULL;
     }
-    if (asprintf(&line, "%s%s: %s\n", head, name, text) < 0) {
-        line = NULL;
+    if (asprintf(&plain, "%s%s: %s", head, name, text) >= 0) {
+        char *clean = spelt(plain);
+        if (clean == NULL || asprintf(&line, "%s\n", clean) < 0) {
+            line = NULL;
+        }
+        free(clean);
+        free(plain);
     }
     free(text);
-    if (line != NULL) {
-        clean(line);
-    }
     return line;
 }
 
@@ -49,7 +44,7 @@ void complain(const char *name, const char *format, ...) {
     char *line = compose("crownhazel: ", name, format, values);
     va_end(values);
     const char *said = line != NULL ? line : "crownhazel: no memory\n";
-    wipe_progress();
+    wipe_passing();
     /* Where standard error cannot be written there is nobody left to tell; the status says it. */
     write_whole(STDERR_FILENO, said, strlen(said));
     free(line);
@@ -58,36 +53,46 @@ void complain(const char *name, const char *format, ...) {
 
 int failed(const char *name, const char *what) {
     complain(name, "%s: %s", what, strerror(errno));
-    return SYSTEM;
+    return STATUS_SYSTEM;
 }
 
+int refused(const char *name, uint32_t number, uint32_t record) {
+    complain(name, "refused with %" PRIu32 " at record %" PRIu32 ": %s", number, record, crownhazel_words(number));
+    return status_of_refusal(number);
+}
+
+#define KEEP_IT                                                                                                        \
+    "keep it, deliver nothing to another journal that may have been delivered before (it would be stored again), "     \
+    "and ask a person"
+
 /* What to do about a refusal that the journal has a part in; NULL for all others. */
-static const char *advice(uint32_t number) {
+static const char *advice(uint32_t number, size_t lines) {
     switch (number) {
-    case 21: return "take its last copy, never open it anew";
+    case 21: return "'crownhazel restore' puts its last copy in its place; never open it anew";
     case 22: return "a statement between is missing, or this is a correction of one that is held";
-    case 23: return "keep it, and go on with a new one";
-    case 24: return "append lines of 120 blanks to it, and deliver again";
+    case 23: return "it has all its statements: " KEEP_IT;
+    case 24: return lines < CROWNHAZEL_MOST_LINES ? "'crownhazel grow' gives it more lines; then deliver again"
+                                                  : "it has all its lines: " KEEP_IT;
     default: return NULL;
     }
 }
 
-int refused(const char *name, uint32_t number, uint32_t record, const char *journal) {
-    const char *words = crownhazel_words(number);
-    const char *what_to_do = advice(number);
-    if (journal == NULL || what_to_do == NULL) {
-        complain(name, "refused with %" PRIu32 " at record %" PRIu32 ": %s", number, record, words);
-    } else {
-        complain(name, "refused with %" PRIu32 " at record %" PRIu32 ": %s; journal %s: %s", number, record, words,
-                 journal, what_to_do);
+int refused_by(const char *name, uint64_t answer, const char *journal, size_t lines) {
+    uint32_t number = crownhazel_refusal(answer);
+    uint32_t record = crownhazel_record(answer);
+    const char *what_to_do = advice(number, lines);
+    if (what_to_do == NULL) {
+        return refused(name, number, record);
     }
-    return REFUSED;
+    complain(name, "refused with %" PRIu32 " at record %" PRIu32 ": %s; journal %s: %s", number, record,
+             crownhazel_words(number), journal, what_to_do);
+    return status_of_refusal(number);
 }
 
 int answer_text(const void *text, size_t length) {
-    wipe_progress();
+    wipe_passing();
     bool written = write_whole(STDOUT_FILENO, text, length);
-    return written ? DONE : failed("standard output", "the answer could not be written");
+    return written ? STATUS_DONE : failed("standard output", "the answer could not be written");
 }
 
 int answer(const char *name, const char *format, ...) {
@@ -100,21 +105,26 @@ int answer(const char *name, const char *format, ...) {
     return status;
 }
 
-void show_progress(size_t through, size_t all) {
-    char line[80];
+void show_passing(const char *format, ...) {
+    char line[80] = "\r";
     if (!isatty(STDERR_FILENO)) {
         return;
     }
-    int length = snprintf(line, sizeof line, "\r%zu of %zu files", through, all);
-    progress_width = write_whole(STDERR_FILENO, line, (size_t)length) ? length - 1 : 0;
+    wipe_passing();
+    va_list values;
+    va_start(values, format);
+    vsnprintf(line + 1, sizeof line - 1, format, values);
+    va_end(values);
+    size_t length = strlen(line);
+    passing_width = write_whole(STDERR_FILENO, line, length) ? (int)length - 1 : 0;
 }
 
 /* Blanks over it. */
-void wipe_progress(void) {
-    char blanks[80];
-    if (progress_width > 0) {
-        int length = snprintf(blanks, sizeof blanks, "\r%*s\r", progress_width, "");
-        progress_width = 0;
+void wipe_passing(void) {
+    char blanks[84];
+    if (passing_width > 0) {
+        int length = snprintf(blanks, sizeof blanks, "\r%*s\r", passing_width, "");
+        passing_width = 0;
         write_whole(STDERR_FILENO, blanks, (size_t)length);
     }
 }

@@ -1,5 +1,5 @@
 /* All that the command says: answers on standard output, messages and progress on standard error.
- * A line goes out in one piece, so that the lines of several commands do not mix. */
+ * A line goes out in one piece, so that the lines of several commands do not mix. Names in it are spelt (spelling.h). */
 #ifndef COMMAND_SAY_H
 #define COMMAND_SAY_H
 
@@ -7,24 +7,26 @@
 #include <stddef.h>
 #include <stdint.h>
 
-/* 'crownhazel: NAME: ..' on standard error. Control characters in a name are shown as '?'. */
+/* 'crownhazel: NAME: ..' on standard error. */
 __attribute__((format(printf, 2, 3))) void complain(const char *name, const char *format, ...);
 
-/* 'crownhazel: NAME: WHAT: ' and the words of errno. Answers SYSTEM. */
+/* 'crownhazel: NAME: WHAT: ' and the words of errno. Answers STATUS_SYSTEM. */
 int failed(const char *name, const char *what);
 
-/* A refusal: number, record, the words of the list and, where a journal is named, what to do about it. The journal can
- * be NULL. Answers REFUSED. */
-int refused(const char *name, uint32_t number, uint32_t record, const char *journal);
+/* A refusal: number, record and the words of the list. Answers its status. */
+int refused(const char *name, uint32_t number, uint32_t record);
 
-/* 'NAME: ..' on standard output. Answers DONE, or SYSTEM with a message where it cannot be written. */
+/* The same for a refusal that the journal has a part in, and what to do about it. The journal has so many body lines. */
+int refused_by(const char *name, uint64_t answer, const char *journal, size_t lines);
+
+/* 'NAME: ..' on standard output. Answers STATUS_DONE, or STATUS_SYSTEM with a message where it cannot be written. */
 __attribute__((format(printf, 2, 3))) int answer(const char *name, const char *format, ...);
 
 /* Text as it is on standard output. Answers as above. */
 int answer_text(const void *text, size_t length);
 
-/* Shows that so many files are through, on a terminal only. The next line that is said wipes it away. */
-void show_progress(size_t through, size_t all);
-void wipe_progress(void);
+/* Shows a passing line, on a terminal only. The next line that is said wipes it away. */
+__attribute__((format(printf, 1, 2))) void show_passing(const char *format, ...);
+void wipe_passing(void);
 
 #endif

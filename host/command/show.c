@@ -7,6 +7,7 @@
 #include <signal.h>
 #include <stdio.h>
 #include <stdlib.h>
+#include <stdnoreturn.h>
 #include <string.h>
 #include <sys/mman.h>
 #include <sys/wait.h>
@@ -69,7 +70,7 @@ static const char *listing_program(void) {
 }
 
 /* The child: becomes the listing, or says why it cannot. */
-static void become_listing(int input, int output) {
+static noreturn void become_listing(int input, int output) {
     const char *program = listing_program();
     signal(SIGPIPE, SIG_DFL);
     signal(SIGXFSZ, SIG_DFL);
@@ -77,7 +78,7 @@ static void become_listing(int input, int output) {
         execl(program, program, (char *)NULL);
     }
     failed(program, "the listing program cannot be run");
-    _exit(SYSTEM);
+    _exit(STATUS_SYSTEM);
 }
 
 /* Waits for the child to end well. */
@@ -118,11 +119,11 @@ static bool run_listing(int input, struct bytes *printed) {
 
 static int too_long(const char *name) {
     complain(name, "refused with TROP LONG: more than 65,340 bytes with LF line ends, which is 540 records");
-    return REFUSED;
+    return STATUS_FILE_REFUSED;
 }
 
 /* Whether the listing ends with its last line, 'OK' and a number. */
-static bool is_whole(const char *text, size_t length) {
+static bool has_last_line(const char *text, size_t length) {
     const char *last = length > 1 ? memrchr(text, '\n', length - 1) : NULL;
     last = last == NULL ? text : last + 1;
     return length > 0 && text[length - 1] == '\n' && strncmp(last, "OK ", 3) == 0;
@@ -135,39 +136,38 @@ static int report(const char *name, const char *text, size_t length) {
         return too_long(name);
     }
     if (sscanf(text, "REFUS %" SCNu32 " %" SCNu32, &number, &record) == 2) {
-        return refused(name, number, record, NULL);
+        return refused(name, number, record);
     }
-    if (!is_whole(text, length)) {
+    if (!has_last_line(text, length)) {
         complain(listing_program(), "the listing program did not print its last line");
-        return SYSTEM;
+        return STATUS_SYSTEM;
     }
     return answer_text(text, length);
 }
 
-static int show_bytes(const char *name, const struct bytes *file, uint64_t line_end) {
+static int show_input(const struct input *input) {
     struct bytes printed = {0};
-    int input = listing_input(file, line_end);
-    if (input < 0) {
-        return failed(name, "cannot be handed to the listing program");
+    int descriptor = listing_input(&input->kept, input->line_end);
+    if (descriptor < 0) {
+        return failed(input->name, "cannot be handed to the listing program");
     }
-    int status = SYSTEM;
-    bool good = run_listing(input, &printed);
-    close(input);
+    int status = STATUS_SYSTEM;
+    bool good = run_listing(descriptor, &printed);
+    close(descriptor);
     if (good) {
         printed.first[printed.length] = '\0';
-        status = report(name, (const char *)printed.first, printed.length);
+        status = report(input->name, (const char *)printed.first, printed.length);
     }
     let_go(&printed);
     return status;
 }
 
 int show_command(const struct arguments *arguments) {
-    const char *name = arguments->files[0];
-    struct bytes file;
-    if (!read_input(name, &file)) {
-        return SYSTEM;
+    struct input input;
+    if (!read_input(arguments->operands[0], arguments->line_end, &input)) {
+        return STATUS_SYSTEM;
     }
-    int status = show_bytes(name, &file, line_end_of(&file, arguments->line_end));
-    let_go(&file);
+    int status = is_whole(&input) ? show_input(&input) : too_long(input.name);
+    let_go(&input.kept);
     return status;
 }

@@ -1,10 +1,10 @@
-/* The collector's way into the proved library: four functions, each answering one 64-bit number.
+/* The collector's way into the proved library: functions that each answer one 64-bit number.
  *
  * Duties of the caller. They are trusted; nothing in the library can test them.
  *  - A pointer is valid for the length given with it: readable, and writable where it is not const.
- *  - Journal and file do not overlap.
+ *  - Journal, file and row do not overlap.
  *  - A pointer is NULL only where its length is 0.
- *  - Nothing else writes to journal or file during a call.
+ *  - Nothing else writes to journal, file or row during a call.
  * Under these duties every call takes every input and ends. A refusal changes nothing.
  *
  * docs/COLLECTOR.md says what the answers mean and what to do about a refusal. */
@@ -24,7 +24,9 @@ enum {
     CROWNHAZEL_RECORD = 120,          /* bytes of a record, and of a body line */
     CROWNHAZEL_CONTENTS = 7680,       /* bytes of a journal before its body lines */
     CROWNHAZEL_MOST_LINES = 100000,   /* body lines of the longest journal */
-    CROWNHAZEL_MOST_ENTRIES = 128     /* statements that a journal holds at most */
+    CROWNHAZEL_MOST_ENTRIES = 128,    /* statements that a journal holds at most */
+    CROWNHAZEL_MOST_RECORDS = 20000,  /* records of the longest file */
+    CROWNHAZEL_ROW = 41               /* bytes of a row: what an entry says of its statement */
 };
 
 /* Judges a file. The line-end number is 0 (nothing after a record), 1 (LF) or 2 (CR LF). */
@@ -39,6 +41,19 @@ uint64_t crownhazel_deliver(uint8_t *journal, size_t journal_len, uint64_t line_
 
 /* Says where the body of an entry stands. Entries are numbered from 1, in order of first arrival. */
 uint64_t crownhazel_entry(const uint8_t *journal, size_t journal_len, uint64_t entry);
+
+/* Tests whether a journal is sound, and says how much of it is used. */
+uint64_t crownhazel_used(const uint8_t *journal, size_t journal_len);
+
+/* Says what an entry of a sound journal says, without testing it again: where its body stands, as crownhazel_entry does,
+ * and in the row's first 41 bytes the account key (5 bank, 5 branch, 3 currency, 1 decimals, 11 account), the old date
+ * and the new one (8 digits each, YYYYMMDD). Ask crownhazel_used first. Of a journal that is not sound it says what
+ * stands there. */
+uint64_t crownhazel_listed(const uint8_t *journal, size_t journal_len, uint64_t entry, uint8_t *row, size_t row_len);
+
+/* Judges the length of a file alone: the refusals 1 to 3, which come before all others, or the number of records. A file
+ * of that length that is refused here is refused so by crownhazel_check, whatever its bytes. */
+uint64_t crownhazel_length(uint64_t line_end, uint64_t length);
 
 /* An answer: bits 0-19, 20-39 and 40-59 hold a field each, bits 60-63 the kind. */
 enum {
@@ -89,13 +104,31 @@ static inline uint32_t crownhazel_held(uint64_t delivered) {
     return crownhazel_field(delivered, 20);
 }
 
-/* Of crownhazel_entry: how many records the body has, and its first body line, counted from 0. */
+/* Of crownhazel_entry and crownhazel_listed: how many records the body has, and its first body line, counted from 0. */
 static inline uint32_t crownhazel_records(uint64_t entry) {
     return crownhazel_field(entry, 0);
 }
 
 static inline uint32_t crownhazel_first_line(uint64_t entry) {
     return crownhazel_field(entry, 20);
+}
+
+/* Of crownhazel_used: entries used, body lines used, body lines in all. */
+static inline uint32_t crownhazel_entries_used(uint64_t used) {
+    return crownhazel_field(used, 0);
+}
+
+static inline uint32_t crownhazel_lines_used(uint64_t used) {
+    return crownhazel_field(used, 20);
+}
+
+static inline uint32_t crownhazel_lines(uint64_t used) {
+    return crownhazel_field(used, 40);
+}
+
+/* Of crownhazel_length: how many records a file of that length has. */
+static inline uint32_t crownhazel_records_in(uint64_t judged) {
+    return crownhazel_field(judged, 0);
 }
 
 /* The words of the list of refusals. */
@@ -116,6 +149,7 @@ static inline const char *crownhazel_words(uint32_t refusal) {
     case 13: return "sum wrong, seen at the 07";
     case 14: return "file ends inside a statement";
     case 15: return "record that would be a statement's 10,000th";
+    case 20: return "output shorter than the statement";
     case 21: return "not a sound journal, or a length that none has";
     case 22: return "statement does not follow";
     case 23: return "contents table full";

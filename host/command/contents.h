@@ -1,0 +1,50 @@
+/* What a journal holds, told by the library: there is no reader of entries here. */
+#ifndef COMMAND_CONTENTS_H
+#define COMMAND_CONTENTS_H
+
+#include <stddef.h>
+#include <stdint.h>
+
+#include "bytes.h"
+#include "crownhazel.h"
+
+/* An entry of a journal. The row holds zones of fixed width, one after another. */
+struct entry {
+    uint8_t row[CROWNHAZEL_ROW];
+    uint32_t first_line;
+    uint32_t records;
+};
+
+/* Where the zones of a row begin, and their widths: the account key, which is the first four, and the dates. */
+enum {
+    ROW_BANK = 0,
+    ROW_BRANCH = 5,
+    ROW_CURRENCY = 10,
+    ROW_DECIMALS = 13,
+    ROW_ACCOUNT = 14,
+    ROW_KEY = 25, /* bytes of the key */
+    ROW_OLD_DATE = 25,
+    ROW_NEW_DATE = 33
+};
+
+struct contents {
+    struct entry entries[CROWNHAZEL_MOST_ENTRIES];
+    size_t count;
+    size_t lines_used;
+    size_t lines;
+};
+
+/* Tests a journal, once, and takes what it holds. Answers the library's number: a refusal where it is not sound. */
+uint64_t read_contents(const struct bytes *journal, struct contents *contents);
+
+/* The number of accounts among the entries. */
+size_t accounts_in(const struct contents *contents);
+
+/* How many statements one journal holds that another does not. Both are sound. */
+size_t lacking(const struct bytes *journal, const struct contents *contents, const struct bytes *other,
+               const struct contents *other_contents);
+
+/* How many body lines a file of such a length has; 0 where it is none of a journal. */
+size_t lines_of(const struct bytes *journal);
+
+#endif

@@ -1,0 +1,153 @@
+#define _GNU_SOURCE
+#include "copies.h"
+
+#include <errno.h>
+#include <fcntl.h>
+#include <stdio.h>
+#include <stdlib.h>
+#include <string.h>
+#include <unistd.h>
+
+#include "journal.h"
+#include "say.h"
+#include "sha256.h"
+#include "status.h"
+
+enum { PRIVATE = 0600, MOST_CHECKSUM_FILE = 8192 };
+
+static const char temporary_ending[] = ".crownhazel~";
+
+char *checksum_path(const struct place *copy) {
+    char *path = NULL;
+    return asprintf(&path, "%s.sha256", copy->path) < 0 ? NULL : path;
+}
+
+static int exists_already(const char *name, const char *path) {
+    complain(name, "%s exists already and stays as it is; take another name", path);
+    return STATUS_USAGE;
+}
+
+/* Writes to a temporary file of a name that nobody else has. Its path where it is on the disk, else NULL with errno. */
+static char *write_temporary(const char *folder, const char *path, const struct bytes *bytes) {
+    char *temporary = NULL;
+    if (asprintf(&temporary, "%s/.%s.XXXXXX%s", folder, last_part(path), temporary_ending) < 0) {
+        return NULL;
+    }
+    int descriptor = mkostemps(temporary, (int)strlen(temporary_ending), O_CLOEXEC);
+    if (descriptor >= 0 && close_after(give_mode(descriptor, PRIVATE) && write_to_disk(descriptor, bytes), descriptor)) {
+        return temporary;
+    }
+    int error = errno;
+    if (descriptor >= 0) {
+        unlink(temporary);
+    }
+    free(temporary);
+    errno = error;
+    return NULL;
+}
+
+/* A new file with these bytes, by a link, which fails where the name is taken. */
+static int write_new(const struct place *copy, const char *path, const struct bytes *bytes) {
+    char *temporary = write_temporary(copy->folder, path, bytes);
+    bool linked = temporary != NULL && link(temporary, path) == 0;
+    int error = errno;
+    if (temporary != NULL) {
+        unlink(temporary);
+        free(temporary);
+    }
+    if (linked) {
+        return STATUS_DONE;
+    }
+    if (temporary != NULL && error == EEXIST) {
+        return exists_already(copy->name, path);
+    }
+    complain(copy->name, "%s cannot be written: %s; there is no copy", path, strerror(error));
+    return STATUS_SYSTEM;
+}
+
+/* A line of sha256sum: after a backslash, where one is needed, the name's own backslashes and ends of lines are spelt. */
+static bool compose_line(const char *digits, const char *name, struct bytes *line) {
+    const char *special = "\\\n\r";
+    if (!make_room(line, CHECKSUM_DIGITS + 2 * strlen(name) + 4)) {
+        return false;
+    }
+    char *end = (char *)line->first;
+    end += sprintf(end, "%s%s  ", strpbrk(name, special) == NULL ? "" : "\\", digits);
+    for (const char *at = name; *at != '\0'; at++) {
+        const char *found = strchr(special, *at);
+        if (found != NULL) {
+            *end++ = '\\';
+        }
+        *end++ = found == NULL ? *at : "\\nr"[found - special];
+    }
+    *end++ = '\n';
+    line->length = (size_t)(end - (char *)line->first);
+    return true;
+}
+
+/* The copy first: a copy without its checksum is not taken for one that is whole. Where the checksum cannot be written
+ * the copy goes too, so that the same call can be made again. */
+static int write_both(const struct place *copy, const struct bytes *journal, const char *path, const struct bytes *line) {
+    int status = write_new(copy, copy->path, journal);
+    if (status != STATUS_DONE) {
+        return status;
+    }
+    status = write_new(copy, path, line);
+    if (status != STATUS_DONE) {
+        unlink(copy->path);
+        return status;
+    }
+    return sync_folder(copy->name, copy->folder);
+}
+
+int write_copy(const struct place *copy, const struct bytes *journal) {
+    char digits[CHECKSUM_DIGITS + 1];
+    struct bytes line = {0};
+    char *path = checksum_path(copy);
+    checksum_of(journal, digits);
+    int status;
+    if (path == NULL || !compose_line(digits, last_part(copy->path), &line)) {
+        status = failed(copy->name, "no memory for the checksum");
+    } else if (copy->exists) {
+        status = exists_already(copy->name, copy->path);
+    } else if (access(path, F_OK) == 0) {
+        status = exists_already(copy->name, path);
+    } else {
+        status = write_both(copy, journal, path, &line);
+    }
+    let_go(&line);
+    free(path);
+    return status;
+}
+
+static bool read_checksum(const char *path, struct bytes *text) {
+    int descriptor = open(path, O_RDONLY | O_CLOEXEC | O_NONBLOCK);
+    return descriptor >= 0 && close_after(read_up_to(descriptor, MOST_CHECKSUM_FILE, text), descriptor);
+}
+
+/* Whether the first line of a checksum's file begins with these digits. */
+static bool is_checksum(const struct bytes *text, const char *digits) {
+    const char *first = (const char *)text->first;
+    size_t before = text->length > 0 && first[0] == '\\' ? 1 : 0;
+    return text->length > before + CHECKSUM_DIGITS && memcmp(first + before, digits, CHECKSUM_DIGITS) == 0 &&
+           first[before + CHECKSUM_DIGITS] == ' ';
+}
+
+int match_checksum(const struct place *copy, const struct bytes *journal) {
+    char digits[CHECKSUM_DIGITS + 1];
+    struct bytes text = {0};
+    int status = STATUS_DONE;
+    char *path = checksum_path(copy);
+    checksum_of(journal, digits);
+    if (path == NULL || !read_checksum(path, &text)) {
+        complain(copy->name, "its checksum %s cannot be read: %s; without it no copy is taken",
+                 path == NULL ? "" : path, strerror(errno));
+        status = STATUS_SYSTEM;
+    } else if (!is_checksum(&text, digits)) {
+        complain(copy->name, "it does not match its checksum %s: the copy was altered; take another one", path);
+        status = STATUS_UNSOUND;
+    }
+    let_go(&text);
+    free(path);
+    return status;
+}

@@ -1,0 +1,134 @@
+#define _GNU_SOURCE
+#include "place.h"
+
+#include <errno.h>
+#include <stdio.h>
+#include <stdlib.h>
+#include <string.h>
+#include <unistd.h>
+
+#include "say.h"
+#include "status.h"
+
+static const char lock_ending[] = ".lock";
+static const char fresh_ending[] = ".crownhazel~";
+
+const char *last_part(const char *path) {
+    const char *slash = strrchr(path, '/');
+    return slash == NULL ? path : slash + 1;
+}
+
+/* The real path of a name in a folder that exists; the name itself need not. */
+static char *path_in_folder(const char *name) {
+    const char *last = last_part(name);
+    char *folder = last == name ? strdup(".") : strndup(name, (size_t)(last - name));
+    char *real = folder == NULL ? NULL : realpath(folder, NULL);
+    char *path = NULL;
+    if (real != NULL && asprintf(&path, "%s/%s", strcmp(real, "/") == 0 ? "" : real, last) < 0) {
+        path = NULL;
+    }
+    free(folder);
+    free(real);
+    return path;
+}
+
+/* NULL with errno. A name that ends in a slash is a folder's; a link that leads nowhere has no place. A file that
+ * appears meanwhile has one. */
+static char *path_of(const char *name) {
+    struct stat status;
+    char *path = realpath(name, NULL);
+    if (path != NULL || errno != ENOENT) {
+        return path;
+    }
+    bool leads_nowhere = lstat(name, &status) == 0 && S_ISLNK(status.st_mode);
+    if (leads_nowhere || name[0] == '\0' || name[strlen(name) - 1] == '/') {
+        errno = ENOENT;
+        return NULL;
+    }
+    return path_in_folder(name);
+}
+
+/* The path up to its last slash. */
+static char *folder_of(const char *path) {
+    size_t length = (size_t)(strrchr(path, '/') - path);
+    return strndup(path, length == 0 ? 1 : length);
+}
+
+static bool name_places(struct place *place) {
+    place->path = path_of(place->name);
+    if (place->path == NULL) {
+        return false;
+    }
+    const char *last = last_part(place->path);
+    int before = (int)(last - place->path);
+    place->folder = folder_of(place->path);
+    if (asprintf(&place->lock_path, "%s%s", place->path, lock_ending) < 0) {
+        place->lock_path = NULL;
+    }
+    if (asprintf(&place->fresh_path, "%.*s.%s%s", before, place->path, last, fresh_ending) < 0) {
+        place->fresh_path = NULL;
+    }
+    return place->folder != NULL && place->lock_path != NULL && place->fresh_path != NULL;
+}
+
+static bool ends_with(const char *text, const char *ending) {
+    size_t length = strlen(text);
+    return length >= strlen(ending) && strcmp(text + length - strlen(ending), ending) == 0;
+}
+
+/* A file of such a name is the command's own, and a journal there would be taken for it. */
+static bool is_reserved(const char *path) {
+    const char *last = last_part(path);
+    return ends_with(last, lock_ending) || (last[0] == '.' && ends_with(last, fresh_ending));
+}
+
+static int look_at(struct place *place) {
+    if (is_reserved(place->path)) {
+        complain(place->name, "no journal: names that end in %s, and those of the form .NAME%s, are the command's own",
+                 lock_ending, fresh_ending);
+        return STATUS_USAGE;
+    }
+    place->exists = lstat(place->path, &place->status) == 0;
+    if (!place->exists && errno != ENOENT) {
+        return failed(place->name, "no journal");
+    }
+    if (place->exists && !S_ISREG(place->status.st_mode)) {
+        complain(place->name, "no journal: it is a folder, a pipe or a device");
+        return STATUS_SYSTEM;
+    }
+    return STATUS_DONE;
+}
+
+int find_journal(const char *name, struct place *place) {
+    *place = (struct place){.name = name, .lock = -1, .file = -1};
+    int status = name_places(place) ? look_at(place) : failed(name, "no journal");
+    if (status != STATUS_DONE) {
+        leave_place(place);
+    }
+    return status;
+}
+
+int find_existing_journal(const char *name, struct place *place) {
+    int status = find_journal(name, place);
+    if (status == STATUS_DONE && !place->exists) {
+        complain(name, "no journal: %s; 'crownhazel open' makes one", strerror(ENOENT));
+        leave_place(place);
+        return STATUS_SYSTEM;
+    }
+    return status;
+}
+
+/* Nothing was written to either file, so closing them can lose nothing. */
+void leave_place(struct place *place) {
+    if (place->file >= 0) {
+        close(place->file);
+    }
+    if (place->lock >= 0) {
+        close(place->lock);
+    }
+    free(place->path);
+    free(place->folder);
+    free(place->lock_path);
+    free(place->fresh_path);
+    *place = (struct place){.lock = -1, .file = -1};
+}

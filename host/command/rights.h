@@ -1,0 +1,32 @@
+/* Who may read and write a file: owner, group, mode, and an access list where there is one. */
+#ifndef COMMAND_RIGHTS_H
+#define COMMAND_RIGHTS_H
+
+#include <stdbool.h>
+#include <stddef.h>
+#include <stdint.h>
+#include <sys/stat.h>
+
+enum { MOST_ACCESS_LIST = 8192 };
+
+struct rights {
+    uid_t owner;
+    gid_t group;
+    mode_t mode;
+    bool listed; /* there is a list: the group's bits of the mode are then what the list lends at most, not the group's */
+    uint8_t list[MOST_ACCESS_LIST];
+    size_t length; /* 0 where the list cannot be read */
+};
+
+/* Each gives false with errno set where it fails. */
+
+bool read_rights(int descriptor, struct rights *rights);
+bool same_rights(const struct rights *one, const struct rights *other);
+
+/* Owner, group and list as far as that is permitted; what cannot be kept makes the rights narrower, never wider. */
+bool give_rights(int descriptor, const struct rights *rights);
+
+/* These rights alone, whatever the umask, and no list that a folder hands down. */
+bool give_mode(int descriptor, mode_t mode);
+
+#endif
