@@ -23,12 +23,12 @@ struct arguments;
 /* What a subcommand is called, says of itself and takes. */
 struct subcommand {
     const char *name;
-    const char *operands;   /* as the help shows them */
-    const char *summary;    /* its line in the help of the command */
-    const char *text;       /* its own help */
-    unsigned options;       /* a bit for each */
-    size_t least, most;     /* operands */
-    size_t first_file;      /* which operands, from this one on, are files that can be standard input */
+    const char *operands; /* as the help shows them */
+    const char *summary;  /* its line in the help of the command */
+    const char *text;     /* its own help */
+    unsigned options;     /* a bit for each */
+    size_t least, most;   /* operands */
+    size_t first_file;    /* which operands, from this one on, are files that can be standard input */
     int (*run)(const struct arguments *arguments);
 };
 

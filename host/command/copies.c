@@ -6,6 +6,7 @@
 #include <stdio.h>
 #include <stdlib.h>
 #include <string.h>
+#include <strings.h>
 #include <unistd.h>
 
 #include "journal.h"
@@ -13,9 +14,7 @@
 #include "sha256.h"
 #include "status.h"
 
-enum { PRIVATE = 0600, MOST_CHECKSUM_FILE = 8192 };
-
-static const char temporary_ending[] = ".crownhazel~";
+enum { MOST_CHECKSUM_FILE = 8192 };
 
 char *checksum_path(const struct place *copy) {
     char *path = NULL;
@@ -30,11 +29,12 @@ static int exists_already(const char *name, const char *path) {
 /* Writes to a temporary file of a name that nobody else has. Its path where it is on the disk, else NULL with errno. */
 static char *write_temporary(const char *folder, const char *path, const struct bytes *bytes) {
     char *temporary = NULL;
-    if (asprintf(&temporary, "%s/.%s.XXXXXX%s", folder, last_part(path), temporary_ending) < 0) {
+    if (asprintf(&temporary, "%s/.%s.XXXXXX" TEMPORARY_ENDING, folder, last_part(path)) < 0) {
         return NULL;
     }
-    int descriptor = mkostemps(temporary, (int)strlen(temporary_ending), O_CLOEXEC);
-    if (descriptor >= 0 && close_after(give_mode(descriptor, PRIVATE) && write_to_disk(descriptor, bytes), descriptor)) {
+    int descriptor = mkostemps(temporary, (int)strlen(TEMPORARY_ENDING), O_CLOEXEC);
+    if (descriptor >= 0 &&
+        close_after(give_mode(descriptor, RIGHTS_PRIVATE) && write_to_disk(descriptor, bytes), descriptor)) {
         return temporary;
     }
     int error = errno;
@@ -65,7 +65,7 @@ static int write_new(const struct place *copy, const char *path, const struct by
     return STATUS_SYSTEM;
 }
 
-/* A line of sha256sum: after a backslash, where one is needed, the name's own backslashes and ends of lines are spelt. */
+/* A line of sha256sum. Where the name has backslashes or ends of lines these are spelt, behind a backslash in front. */
 static bool compose_line(const char *digits, const char *name, struct bytes *line) {
     const char *special = "\\\n\r";
     if (!make_room(line, CHECKSUM_DIGITS + 2 * strlen(name) + 4)) {
@@ -87,7 +87,8 @@ static bool compose_line(const char *digits, const char *name, struct bytes *lin
 
 /* The copy first: a copy without its checksum is not taken for one that is whole. Where the checksum cannot be written
  * the copy goes too, so that the same call can be made again. */
-static int write_both(const struct place *copy, const struct bytes *journal, const char *path, const struct bytes *line) {
+static int write_both(const struct place *copy, const struct bytes *journal, const char *path,
+                      const struct bytes *line) {
     int status = write_new(copy, copy->path, journal);
     if (status != STATUS_DONE) {
         return status;
@@ -129,7 +130,7 @@ static bool read_checksum(const char *path, struct bytes *text) {
 static bool is_checksum(const struct bytes *text, const char *digits) {
     const char *first = (const char *)text->first;
     size_t before = text->length > 0 && first[0] == '\\' ? 1 : 0;
-    return text->length > before + CHECKSUM_DIGITS && memcmp(first + before, digits, CHECKSUM_DIGITS) == 0 &&
+    return text->length > before + CHECKSUM_DIGITS && strncasecmp(first + before, digits, CHECKSUM_DIGITS) == 0 &&
            first[before + CHECKSUM_DIGITS] == ' ';
 }
 

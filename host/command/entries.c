@@ -75,6 +75,6 @@ int status_command(const struct arguments *arguments) {
         return status;
     }
     return answer(name, "sound, accounts %zu, entries used %zu, free %zu, lines used %zu, free %zu",
-                  accounts_in(&contents), contents.count, CROWNHAZEL_MOST_ENTRIES - contents.count,
-                  contents.lines_used, contents.lines - contents.lines_used);
+                  accounts_in(&contents), contents.count, CROWNHAZEL_MOST_ENTRIES - contents.count, contents.lines_used,
+                  contents.lines - contents.lines_used);
 }

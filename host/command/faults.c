@@ -87,7 +87,8 @@ static void log_call(const char *call, bool faulty) {
 
 /* The fault of the environment, its number and its call; NOTHING where none is named. */
 static enum fault wanted(unsigned long *number, char call[16]) {
-    static const char *const kinds[] = {[KILL] = "kill", [STOP] = "stop", [CUT] = "cut", [SHORT] = "short", [SKIP] = "skip"};
+    static const char *const kinds[] = {
+        [KILL] = "kill", [STOP] = "stop", [CUT] = "cut", [SHORT] = "short", [SKIP] = "skip"};
     char kind[16] = "";
     const char *text = getenv("CROWNHAZEL_FAULT");
     call[0] = '\0';

@@ -84,7 +84,7 @@ static bool write_fresh(const struct place *place, const struct bytes *journal, 
     if (unlink(place->fresh_path) != 0 && errno != ENOENT) {
         return false;
     }
-    int descriptor = open(place->fresh_path, O_WRONLY | O_CREAT | O_EXCL | O_CLOEXEC, 0600);
+    int descriptor = open(place->fresh_path, O_WRONLY | O_CREAT | O_EXCL | O_CLOEXEC, RIGHTS_PRIVATE);
     return descriptor >= 0 &&
            close_after(give_either(descriptor, place, mode) && write_to_disk(descriptor, journal), descriptor);
 }

@@ -7,6 +7,7 @@
 #include <sys/file.h>
 #include <unistd.h>
 
+#include "rights.h"
 #include "say.h"
 #include "status.h"
 
@@ -78,7 +79,7 @@ static int close_with(int error, int descriptor) {
  * fails. A pipe in its place would not open, so nothing waits for one. */
 static int open_locked(const char *path, int flags, const struct patience *patience) {
     for (;;) {
-        int descriptor = open(path, O_RDONLY | O_CLOEXEC | O_NOFOLLOW | O_NONBLOCK | flags, 0600);
+        int descriptor = open(path, O_RDONLY | O_CLOEXEC | O_NOFOLLOW | O_NONBLOCK | flags, RIGHTS_PRIVATE);
         if (descriptor < 0) {
             return -1;
         }
@@ -97,7 +98,8 @@ static int open_locked(const char *path, int flags, const struct patience *patie
 
 static int not_locked(const struct place *place, const struct patience *patience, const char *what, const char *path) {
     if (errno == EWOULDBLOCK) {
-        complain(place->name, "another command holds the journal: %u seconds were waited; try again", patience->seconds);
+        complain(place->name, "another command holds the journal: %u seconds were waited; try again",
+                 patience->seconds);
     } else {
         complain(place->name, "%s %s cannot be had: %s", what, path, strerror(errno));
     }

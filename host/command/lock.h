@@ -1,5 +1,5 @@
-/* A journal's locks. JOURNAL.lock keeps those apart who find the journal by its name; the lock on the journal's own file
- * keeps them apart where JOURNAL.lock was removed, or where the file has two names. */
+/* A journal's locks. JOURNAL.lock keeps those apart who find the journal by its name; the lock on the journal's own
+ * file keeps them apart where JOURNAL.lock was removed, or where the file has two names. */
 #ifndef COMMAND_LOCK_H
 #define COMMAND_LOCK_H
 

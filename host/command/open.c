@@ -7,15 +7,14 @@
 #include "say.h"
 #include "status.h"
 
-enum { PRIVATE = 0600 };
-
 static int exists_already(const char *name) {
     complain(name, "exists already and stays as it is; --blank-existing blanks a journal, and what it holds is gone");
     return STATUS_USAGE;
 }
 
 /* Only a sound journal is blanked: any other file is something else, or a journal to be restored. */
-static int blank(struct place *place, const struct patience *patience, const struct bytes *journal, const mode_t *mode) {
+static int blank(struct place *place, const struct patience *patience, const struct bytes *journal,
+                 const mode_t *mode) {
     struct bytes old;
     int status = hold_journal(place, patience, &old);
     if (status != STATUS_DONE) {
@@ -39,7 +38,7 @@ static int create(struct place *place, const struct patience *patience, const st
 
 static int open_place(const struct arguments *arguments, struct place *place, const struct bytes *journal) {
     struct patience patience = patience_of(arguments);
-    mode_t mode = arguments->has_mode ? arguments->mode : PRIVATE;
+    mode_t mode = arguments->has_mode ? arguments->mode : RIGHTS_PRIVATE;
     if (!place->exists) {
         return create(place, &patience, journal, mode);
     }

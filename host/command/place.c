@@ -10,9 +10,6 @@
 #include "say.h"
 #include "status.h"
 
-static const char lock_ending[] = ".lock";
-static const char fresh_ending[] = ".crownhazel~";
-
 const char *last_part(const char *path) {
     const char *slash = strrchr(path, '/');
     return slash == NULL ? path : slash + 1;
@@ -62,10 +59,10 @@ static bool name_places(struct place *place) {
     const char *last = last_part(place->path);
     int before = (int)(last - place->path);
     place->folder = folder_of(place->path);
-    if (asprintf(&place->lock_path, "%s%s", place->path, lock_ending) < 0) {
+    if (asprintf(&place->lock_path, "%s" LOCK_ENDING, place->path) < 0) {
         place->lock_path = NULL;
     }
-    if (asprintf(&place->fresh_path, "%.*s.%s%s", before, place->path, last, fresh_ending) < 0) {
+    if (asprintf(&place->fresh_path, "%.*s.%s" TEMPORARY_ENDING, before, place->path, last) < 0) {
         place->fresh_path = NULL;
     }
     return place->folder != NULL && place->lock_path != NULL && place->fresh_path != NULL;
@@ -79,13 +76,13 @@ static bool ends_with(const char *text, const char *ending) {
 /* A file of such a name is the command's own, and a journal there would be taken for it. */
 static bool is_reserved(const char *path) {
     const char *last = last_part(path);
-    return ends_with(last, lock_ending) || (last[0] == '.' && ends_with(last, fresh_ending));
+    return ends_with(last, LOCK_ENDING) || (last[0] == '.' && ends_with(last, TEMPORARY_ENDING));
 }
 
 static int look_at(struct place *place) {
     if (is_reserved(place->path)) {
-        complain(place->name, "no journal: names that end in %s, and those of the form .NAME%s, are the command's own",
-                 lock_ending, fresh_ending);
+        complain(place->name, "no journal: names that end in " LOCK_ENDING
+                              ", and those of the form .NAME" TEMPORARY_ENDING ", are the command's own");
         return STATUS_USAGE;
     }
     place->exists = lstat(place->path, &place->status) == 0;

@@ -5,6 +5,10 @@
 #include <stdbool.h>
 #include <sys/stat.h>
 
+/* How names end that are the command's own: a lock's, and a temporary file's, which begins with a dot too. */
+#define LOCK_ENDING ".lock"
+#define TEMPORARY_ENDING ".crownhazel~"
+
 /* Begins with find_journal, ends with leave_place. */
 struct place {
     const char *name; /* as it was given, for messages */

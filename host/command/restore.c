@@ -13,7 +13,7 @@
 #include "say.h"
 #include "status.h"
 
-enum { PRIVATE = 0600, MOST_KEPT = 9999 };
+enum { MOST_KEPT = 9999 };
 
 /* A copy that may take a journal's place. */
 struct copy {
@@ -28,9 +28,8 @@ static int test_copy(struct copy *copy) {
         return status;
     }
     uint64_t used = read_contents(&copy->bytes, &copy->contents);
-    return crownhazel_is_refused(used)
-               ? refused(copy->place.name, crownhazel_refusal(used), crownhazel_record(used))
-               : STATUS_DONE;
+    return crownhazel_is_refused(used) ? refused(copy->place.name, crownhazel_refusal(used), crownhazel_record(used))
+                                       : STATUS_DONE;
 }
 
 static void leave_copy(struct copy *copy) {
@@ -55,8 +54,8 @@ static int find_copy(const char *name, struct copy *copy) {
     return status;
 }
 
-/* Gives the journal a second name, which it keeps when the copy takes the first. Numbers that are taken are passed over.
- * NULL with a message where it fails. */
+/* Gives the journal a second name, which it keeps when the copy takes the first. Numbers that are taken are passed
+ * over. NULL with a message where it fails. */
 static char *keep_former(const struct place *place) {
     for (int number = 1; number <= MOST_KEPT; number++) {
         char *kept = NULL;
@@ -77,8 +76,8 @@ static char *keep_former(const struct place *place) {
 
 /* What was restored, and over what. */
 struct outcome {
-    char *kept;    /* the path of what was replaced; NULL where nothing was */
-    bool known;    /* whether that was sound, so that it is known what the copy lacks of it */
+    char *kept; /* the path of what was replaced; NULL where nothing was */
+    bool known; /* whether that was sound, so that it is known what the copy lacks of it */
     size_t lacking;
 };
 
@@ -107,11 +106,11 @@ static int restore_over(struct place *place, const struct patience *patience, co
 }
 
 static int restore_where_none_is(struct place *place, const struct patience *patience, const struct copy *copy) {
-    int status = hold_name(place, patience, PRIVATE);
+    int status = hold_name(place, patience, RIGHTS_PRIVATE);
     if (status != STATUS_DONE) {
         return status;
     }
-    status = create_journal(place, &copy->bytes, PRIVATE);
+    status = create_journal(place, &copy->bytes, RIGHTS_PRIVATE);
     if (status == STATUS_USAGE) {
         complain(place->name, "a file has come there meanwhile, and stays as it is; try again");
         return STATUS_SYSTEM;

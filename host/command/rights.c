@@ -44,8 +44,8 @@ bool give_mode(int descriptor, mode_t mode) {
 /* The group's bits go where they would be those of another group, or of a list that is not kept. The mode comes after
  * the owner, whose change can cut it. */
 bool give_rights(int descriptor, const struct rights *rights) {
-    bool grouped = fchown(descriptor, rights->owner, rights->group) == 0 ||
-                   fchown(descriptor, (uid_t)-1, rights->group) == 0;
+    bool grouped =
+        fchown(descriptor, rights->owner, rights->group) == 0 || fchown(descriptor, (uid_t)-1, rights->group) == 0;
     bool narrow = !grouped || rights->listed;
     if (!give_mode(descriptor, narrow ? rights->mode & ~(mode_t)GROUP_RIGHTS : rights->mode)) {
         return false;

@@ -7,13 +7,17 @@
 #include <stdint.h>
 #include <sys/stat.h>
 
-enum { MOST_ACCESS_LIST = 8192 };
+enum {
+    RIGHTS_PRIVATE = 0600, /* of every new file, unless somebody asks otherwise */
+    MOST_ACCESS_LIST = 8192
+};
 
 struct rights {
     uid_t owner;
     gid_t group;
     mode_t mode;
-    bool listed; /* there is a list: the group's bits of the mode are then what the list lends at most, not the group's */
+    bool listed; /* there is a list: the group's bits of the mode are then what the list lends at most, not the group's
+                  */
     uint8_t list[MOST_ACCESS_LIST];
     size_t length; /* 0 where the list cannot be read */
 };

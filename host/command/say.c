@@ -71,8 +71,9 @@ static const char *advice(uint32_t number, size_t lines) {
     case 21: return "'crownhazel restore' puts its last copy in its place; never open it anew";
     case 22: return "a statement between is missing, or this is a correction of one that is held";
     case 23: return "it has all its statements: " KEEP_IT;
-    case 24: return lines < CROWNHAZEL_MOST_LINES ? "'crownhazel grow' gives it more lines; then deliver again"
-                                                  : "it has all its lines: " KEEP_IT;
+    case 24:
+        return lines < CROWNHAZEL_MOST_LINES ? "'crownhazel grow' gives it more lines; then deliver again"
+                                             : "it has all its lines: " KEEP_IT;
     default: return NULL;
     }
 }

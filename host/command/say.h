@@ -1,5 +1,5 @@
 /* All that the command says: answers on standard output, messages and progress on standard error.
- * A line goes out in one piece, so that the lines of several commands do not mix. Names in it are spelt (spelling.h). */
+ * A line goes out in one piece, so that the lines of several commands do not mix. Names are spelt (spelling.h). */
 #ifndef COMMAND_SAY_H
 #define COMMAND_SAY_H
 
@@ -16,7 +16,7 @@ int failed(const char *name, const char *what);
 /* A refusal: number, record and the words of the list. Answers its status. */
 int refused(const char *name, uint32_t number, uint32_t record);
 
-/* The same for a refusal that the journal has a part in, and what to do about it. The journal has so many body lines. */
+/* The same for a refusal that a journal of so many body lines has a part in, and what to do about it. */
 int refused_by(const char *name, uint64_t answer, const char *journal, size_t lines);
 
 /* 'NAME: ..' on standard output. Answers STATUS_DONE, or STATUS_SYSTEM with a message where it cannot be written. */

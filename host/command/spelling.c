@@ -7,8 +7,8 @@
 #include <stdlib.h>
 #include <string.h>
 
-/* Characters that a terminal obeys, does not show, or shows as a blank or on top of another: Unicode's controls, formats,
- * separators, fillers, variation selectors and combining accents. */
+/* Characters that a terminal obeys, does not show, or shows as a blank or on top of another: Unicode's controls,
+ * formats, separators, fillers, variation selectors and combining accents. */
 static const struct {
     uint32_t first, last;
 } hidden[] = {

@@ -9,7 +9,7 @@ int status_of_refusal(uint32_t number) {
 
 static int rank(int status) {
     static const int ranks[] = {
-        [STATUS_DONE] = 0,   [STATUS_FILE_REFUSED] = 1, [STATUS_JOURNAL_REFUSES] = 2,
+        [STATUS_DONE] = 0,  [STATUS_FILE_REFUSED] = 1, [STATUS_JOURNAL_REFUSES] = 2,
         [STATUS_USAGE] = 3, [STATUS_SYSTEM] = 4,       [STATUS_UNSOUND] = 5,
     };
     return ranks[status];
