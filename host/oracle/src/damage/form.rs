@@ -1,6 +1,8 @@
 //! Refusals 1, 2, 4, 5, 6: line-end number, length, line ends, bytes, codes.
 
-use super::{add as recipe, find_where, unpermitted, Claim, Recipe};
+use super::bytes::unpermitted;
+use super::lines::find_where;
+use super::recipe::{add as recipe, Claim, Recipe};
 use crate::record::{put, RECORD};
 use crate::rng::Rng;
 use crate::valid::{file, Draft};

@@ -1,8 +1,8 @@
 //! The large cases: the limits of 20,000 and 9,999 records. The file given is only asked for
 //! its line-end number.
 
+use super::recipe::{add as recipe, Claim, Recipe};
 use super::values::{add_to_amount, change, insert_complements};
-use super::{add as recipe, Claim, Recipe};
 use crate::record::{code, get, put, read_date, write_amount, write_date, MOST, RECORD};
 use crate::rng::Rng;
 use crate::valid::{file, one_statement, Draft};

@@ -1,10 +1,12 @@
 //! Two faults in one file, so that order and precedence show.
 
+use super::bytes::unpermitted;
+use super::lines::{find, find_where, statement_of};
+use super::recipe::{add as recipe, Claim, Recipe};
 use super::values::{
     add_to_amount, change, earlier_day, insert_complements, movement_without_mmo, no_date, rebook,
     KEY,
 };
-use super::{add as recipe, find, find_where, statement_of, unpermitted, Claim, Recipe};
 use crate::record::{code, get, put, read_date, write_date, DAYS, RECORD};
 use crate::rng::Rng;
 use crate::valid::Draft;

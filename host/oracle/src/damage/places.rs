@@ -1,6 +1,7 @@
 //! Refusals 7 and 14: records dropped, doubled, swapped, inserted; files cut.
 
-use super::{add as recipe, find, find_where, movement_end, Claim, Recipe};
+use super::lines::{find, find_where, movement_end};
+use super::recipe::{add as recipe, Claim, Recipe};
 use crate::record::{code, put};
 use crate::rng::Rng;
 use crate::valid::{complement, Draft};

@@ -1,6 +1,8 @@
 //! Damages at random, of which nothing is said beforehand.
 
-use super::{add as recipe, find_where, places, values, zones, Claim, Recipe};
+use super::lines::find_where;
+use super::recipe::{add as recipe, pick, Claim, Recipe};
+use super::{places, values, zones};
 use crate::record::{code, RECORD};
 use crate::rng::Rng;
 use crate::valid::{small_file, Draft};
@@ -132,8 +134,8 @@ fn add_two_recipes(list: &mut Vec<Recipe>) {
     values::add(&mut singles);
     places::add(&mut singles);
     recipe(list, "random-two", "two-damages", move |rng, draft| {
-        let first = super::pick(rng, &singles);
-        let second = super::pick(rng, &singles);
+        let first = pick(rng, &singles);
+        let second = pick(rng, &singles);
         (first.apply)(rng, draft)?;
         (second.apply)(rng, draft)?;
         Some(Claim::Unsaid)

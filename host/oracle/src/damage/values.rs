@@ -1,7 +1,8 @@
 //! Refusals 9 to 13: dates, keys, MMO, order of dates, sums; and near misses that are right.
 
-use super::{add as recipe, find, find_where, movement_end, other_byte, statement_of};
-use super::{Claim, Recipe};
+use super::bytes::other_byte;
+use super::lines::{find, find_where, movement_end, statement_of};
+use super::recipe::{add as recipe, Claim, Recipe};
 use crate::record::{
     code, get, is_mmo, put, read_amount, read_date, write_amount, write_date, DAYS, MOST,
 };

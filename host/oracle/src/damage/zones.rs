@@ -1,7 +1,9 @@
 //! Every zone of every record kind, hit by a byte of another class, by lower case, by a byte
 //! that is not permitted. The paper's zone table stands here a second time, as data.
 
-use super::{add as recipe, find, unpermitted, Claim, Recipe};
+use super::bytes::unpermitted;
+use super::lines::find;
+use super::recipe::{add as recipe, Claim, Recipe};
 use crate::record::{code, put};
 use crate::rng::Rng;
 use crate::valid::Draft;
