@@ -12,36 +12,24 @@ mod limits;
 mod mixed;
 mod refusals;
 mod scenes;
+mod script;
 
 pub use large::large_cases;
 pub use scenes::{scenes, Damage, Scene};
+pub use script::{Script, SeriesCase};
 
 use std::collections::BTreeSet;
 use std::io::{self, Error};
 use std::path::Path;
 
-use crate::record::RECORD;
 use crate::rng::Rng;
-use crate::series::{run, Operation};
-use crate::valid::{Key, Statement};
-use accounts::file;
+use crate::series::run;
+use script::Make;
 
 /// Kept series are not longer than this.
 pub const KEPT_SERIES: usize = 131_072;
 /// Nor are the journals in them longer than this.
 pub const KEPT_JOURNAL: usize = 65_536;
-/// Bytes of the table of contents.
-const TABLE: usize = 7_680;
-
-/// A series and what it tries.
-pub struct SeriesCase {
-    pub name: &'static str,
-    pub bytes: Vec<u8>,
-}
-
-/// Writes a series of its kind.
-type Make = fn(&mut Rng, &mut Script);
-
 /// The kinds, which come in turn.
 pub const KINDS: [(&str, Make); 31] = [
     ("retries-with-other-line-ends", deliveries::retries),
@@ -128,76 +116,5 @@ fn warn_of_gaps(lines: &[String], wanted: impl Iterator<Item = u32>) {
         .collect();
     for gap in wanted.filter(|number| !shown.contains(number.to_string().as_str())) {
         eprintln!("not shown: refusal {gap}");
-    }
-}
-
-/// A series that grows.
-#[derive(Default)]
-pub struct Script {
-    bytes: Vec<u8>,
-}
-
-impl Script {
-    fn push(&mut self, operation: Operation) {
-        self.bytes.append(&mut operation.bytes());
-    }
-
-    /// A buffer of dots.
-    fn buffer(&mut self, length: usize) {
-        self.push(Operation::Journal { length });
-    }
-
-    /// A fresh journal with so many body lines.
-    fn fresh(&mut self, lines: usize) {
-        self.buffer(TABLE + RECORD * lines);
-        self.open();
-    }
-
-    fn open(&mut self) {
-        self.push(Operation::Open);
-    }
-
-    fn sound(&mut self) {
-        self.push(Operation::Sound);
-    }
-
-    fn entries(&mut self, numbers: &[u64]) {
-        for &number in numbers {
-            self.push(Operation::Entry { number });
-        }
-    }
-
-    fn poke(&mut self, offset: usize, byte: u8) {
-        let offset = offset as u64;
-        self.push(Operation::Poke { offset, byte });
-    }
-
-    /// Pokes wherever the second journal differs from the first.
-    fn change(&mut self, from: &[u8], to: &[u8]) {
-        for (offset, (old, new)) in from.iter().zip(to).enumerate() {
-            if old != new {
-                self.poke(offset, *new);
-            }
-        }
-    }
-
-    fn deliver(&mut self, line_end: u64, statements: &[&Statement]) {
-        self.deliver_bytes(line_end, &file(line_end, statements));
-    }
-
-    fn deliver_bytes(&mut self, line_end: u64, file: &[u8]) {
-        self.push(Operation::Deliver { line_end, file });
-    }
-
-    fn newest(&mut self, line_end: u64, key: &Key, statements: &[&Statement]) {
-        self.newest_bytes(line_end, &key.bytes(), &file(line_end, statements));
-    }
-
-    fn newest_bytes(&mut self, line_end: u64, key: &[u8], file: &[u8]) {
-        self.push(Operation::Newest {
-            line_end,
-            key,
-            file,
-        });
     }
 }

@@ -1,7 +1,7 @@
 //! The newest statement of an account.
 
 use super::accounts::{apart, Account, ZONES};
-use super::Script;
+use super::script::Script;
 use crate::rng::Rng;
 use crate::valid::Statement;
 

@@ -1,7 +1,7 @@
 //! Series over damaged journals: filled, damaged, asked, put right again, damage by damage.
 
 use super::scenes::{self, Scene};
-use super::Script;
+use super::script::Script;
 use crate::rng::Rng;
 
 pub fn unused_parts(rng: &mut Rng, script: &mut Script) {

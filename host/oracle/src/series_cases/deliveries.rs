@@ -1,7 +1,7 @@
 //! Deliveries that are stored, held or do not follow.
 
 use super::accounts::{apart, relabelled, twin, Account, ZONES};
-use super::Script;
+use super::script::Script;
 use crate::rng::Rng;
 use crate::valid::{statement, Statement};
 use crate::write::shuffle;

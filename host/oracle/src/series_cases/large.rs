@@ -1,7 +1,7 @@
 //! Large series, around the limits that small files and journals do not reach. One seed.
 
 use super::accounts::Account;
-use super::{Make, Script, SeriesCase};
+use super::script::{Make, Script, SeriesCase};
 use crate::rng::Rng;
 use crate::valid::{file, one_statement, Statement};
 

@@ -1,7 +1,7 @@
 //! Full tables, full bodies, short journals and lengths that no journal has.
 
 use super::accounts::Account;
-use super::Script;
+use super::script::Script;
 use crate::rng::Rng;
 use crate::valid::Statement;
 

@@ -4,7 +4,7 @@ use super::accounts::{apart, Account, ZONES};
 use super::damaged::play_journals;
 use super::deliveries::overlap;
 use super::scenes;
-use super::{Script, TABLE};
+use super::script::{Script, TABLE};
 use crate::damage::{pick, recipes};
 use crate::rng::Rng;
 use crate::valid::Statement;

@@ -1,7 +1,7 @@
 //! Files that are refused: by the check, for the journal, or in a later statement.
 
 use super::accounts::{file, relabelled, Account};
-use super::Script;
+use super::script::Script;
 use crate::damage::recipes;
 use crate::rng::Rng;
 use crate::valid::Statement;

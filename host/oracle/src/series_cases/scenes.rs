@@ -3,7 +3,7 @@
 //! The journals are laid out here a second time, on purpose: nothing of `journal` is called.
 
 use super::accounts::{apart, relabelled, twin, Account, Zone};
-use super::TABLE;
+use super::script::TABLE;
 use crate::damage::other_byte;
 use crate::record::{put, write_amount, write_date, RECORD};
 use crate::rng::Rng;
