@@ -6,15 +6,19 @@
 //! `series` stand on them. Everything else makes files, values and series to try them on, and what
 //! it makes does not hang on a rule.
 
+pub mod answers;
+pub mod case_file;
 pub mod check;
 pub mod damage;
 pub mod delivery;
 pub mod hostile;
+pub mod hostile_series;
 pub mod journal;
 pub mod listing;
 pub mod listing_cases;
 pub mod read;
 pub mod record;
+pub mod recorded;
 pub mod replay;
 pub mod rng;
 pub mod samples;

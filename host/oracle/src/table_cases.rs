@@ -3,61 +3,38 @@
 //!
 //! Numbers stand low byte first. README.md has the format.
 
+mod calls;
 mod changes;
 mod damages;
 mod edges;
 mod readings;
 mod sweeps;
+mod worked;
 
+pub use calls::{statement_bytes, Call, TableCase};
 pub use damages::{damages, hostile_values, Damage};
-pub use edges::{edges, with_complements, worked, Edge};
+pub use edges::{edges, Edge};
 pub use readings::fixed_readings;
 pub use sweeps::sweeps;
+pub use worked::{with_complements, worked};
 
 use std::io;
 use std::path::Path;
 
+use crate::case_file::{put_bytes, Cases};
 use crate::check::RECORD;
 use crate::damage::{recipes, Recipe};
 use crate::hostile;
 use crate::read::{statements, Refusal};
-use crate::replay::{few_records, put_bytes, Cases};
 use crate::rng::Rng;
+use crate::valid::few_records;
 use crate::values::{Head, Key, Row, Values};
 use crate::write::damaged_from;
-use crate::writer::{movements, write_statement, COMPLEMENT};
+use crate::writer::{movements, write_statement};
+use calls::reading;
 
 /// The first bytes of the file.
 pub const TABLES: &[u8; 8] = b"CHTABLES";
-
-pub struct TableCase {
-    pub name: String,
-    pub call: Call,
-}
-
-/// What a case calls, with the lengths of what it lends.
-pub enum Call {
-    /// The movements of statement k into a table of so many rows.
-    Read {
-        line_end: u64,
-        file: Vec<u8>,
-        k: u64,
-        rows: usize,
-    },
-    /// Values written to so many bytes.
-    Write { values: Values, bytes: usize },
-    /// Statement k read into a table, and written from it.
-    Trip {
-        line_end: u64,
-        file: Vec<u8>,
-        k: u64,
-    },
-}
-
-/// The length of the statement where the values are right.
-pub fn statement_bytes(values: &Values) -> usize {
-    (2 + values.rows.len() + values.complements.len() / COMPLEMENT) * RECORD
-}
 
 /// Writes the fixed cases and so many generated ones. Gives a line that says what they are.
 pub fn replay_tables(seed: u64, count: u64, path: &Path) -> io::Result<String> {
@@ -82,7 +59,7 @@ pub fn replay_tables(seed: u64, count: u64, path: &Path) -> io::Result<String> {
 
 fn add(cases: &mut Cases, case: &TableCase) -> io::Result<()> {
     let (body, number) = body(&case.call);
-    cases.add(&case.name, &body, number)
+    cases.add(&case.name, &body, &[number])
 }
 
 /// The edges, the sweeps through all zones, and the readings.
@@ -154,16 +131,6 @@ fn other_reading(rng: &mut Rng, recipes: &[Recipe]) -> TableCase {
     let k = rng.pick(&[1, 1, 1, 2, 0, u64::MAX]);
     let rows = rng.index(6);
     reading(case.name, case.line_end, case.bytes, k, rows)
-}
-
-fn reading(name: String, line_end: u64, file: Vec<u8>, k: u64, rows: usize) -> TableCase {
-    let call = Call::Read {
-        line_end,
-        file,
-        k,
-        rows,
-    };
-    TableCase { name, call }
 }
 
 /// The values of one of the statements of a valid file.

@@ -77,6 +77,16 @@ pub fn small_file(rng: &mut Rng) -> Draft {
     file(rng, line_end, records)
 }
 
+/// A file of 2 to 8 records. One in ten is larger, so that every damage finds a place.
+pub fn few_records(rng: &mut Rng) -> Draft {
+    if rng.one_in(10) {
+        return small_file(rng);
+    }
+    let line_end = rng.below(3);
+    let records = 2 + rng.index(7);
+    file(rng, line_end, records)
+}
+
 /// Mostly 2 to 60 records, now and then none.
 fn small_size(rng: &mut Rng) -> usize {
     match rng.below(12) {

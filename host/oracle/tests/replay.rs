@@ -4,12 +4,14 @@ mod replays;
 
 use std::collections::BTreeSet;
 
+use oracle::case_file::Cases;
 use oracle::check::{check, Answer};
 use oracle::damage::Case;
 use oracle::delivery::deliver;
 use oracle::journal::{entry, open};
 use oracle::read::Refusal;
-use oracle::replay::{fnv, replay_checks, replay_series, Cases, Series, CHECKS, SERIES};
+use oracle::recorded::{fnv, Series};
+use oracle::replay::{add_check, add_series, replay_checks, replay_series, CHECKS, SERIES};
 use oracle::rng::Rng;
 use oracle::series::{operations, Operation};
 use oracle::series_cases::{series_case, KINDS};
@@ -52,7 +54,7 @@ fn a_check_by_hand_is_read_back() {
             bytes: bytes.to_vec(),
             expected: None,
         };
-        cases.check(&case).unwrap();
+        add_check(&mut cases, &case).unwrap();
     }
     let tally = cases.finish().unwrap();
     assert_eq!(tally.0.into_iter().collect::<Vec<_>>(), [(0, 1), (1, 1)]);
@@ -121,7 +123,7 @@ fn a_series_by_hand_is_read_back() {
     let file = b"x";
     series.perform(Operation::Deliver { line_end: 2, file });
     let mut cases = Cases::create(&path, SERIES, 10, 1).unwrap();
-    cases.series(&series.end()).unwrap();
+    add_series(&mut cases, &series.end()).unwrap();
     cases.finish().unwrap();
     let mut dots = vec![b'.'; length];
     dots[7..10].copy_from_slice(b"abc");

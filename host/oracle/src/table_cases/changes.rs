@@ -1,6 +1,6 @@
 //! Changes of the worked example with complements, each with the answer of the writer to it.
 
-use super::edges::add_complement;
+use super::worked::add_complement;
 use crate::values::Values;
 
 /// A name, the refusal expected or 0, the change.

@@ -1,9 +1,10 @@
 //! Values at the edges of what a statement can say, each with the answer of the writer as the
 //! paper gives it.
 
+use super::calls::statement_bytes;
 use super::changes::{Change, COMPLEMENTS, COUNTS, ZONES};
-use super::statement_bytes;
-use crate::values::{Head, Key, Row, Values};
+use super::worked::{add_complement, row, with_complements, worked};
+use crate::values::Values;
 
 /// Values, the bytes lent for them, and the refusal expected or 0.
 pub struct Edge {
@@ -14,65 +15,6 @@ pub struct Edge {
 }
 
 const MOST: i64 = 99_999_999_999_999;
-
-/// The worked example of the paper.
-pub fn worked() -> Values {
-    Values {
-        head: Head {
-            key: Key {
-                bank: *b"12345",
-                branch: *b"00010",
-                currency: *b"EUR",
-                decimals: b'2',
-                account: *b"0001234567A",
-            },
-            old_date: 20250131,
-            old_balance: 100_000,
-            new_date: 20250228,
-            new_balance: 120_833,
-        },
-        rows: vec![
-            row(b"05", 20250205, 20250206, 25_050),
-            row(b"08", 20250207, 20250207, -4_217),
-        ],
-        complements: Vec::new(),
-    }
-}
-
-/// A movement of the worked example: entry number 0, positions 89-90 `00`, free zones blank.
-fn row(code: &[u8; 2], booked: u32, value: u32, amount: i64) -> Row {
-    Row {
-        internal: [b' '; 4],
-        code: *code,
-        booked,
-        reject: [b' '; 2],
-        value,
-        label: [b' '; 31],
-        entry: 0,
-        exempt: b'0',
-        unavailable: b'0',
-        amount,
-        reference: [b' '; 16],
-        complements: 0,
-    }
-}
-
-/// The worked example with complements: LIB and MMO, then NPY.
-pub fn with_complements() -> Values {
-    let mut values = worked();
-    values.rows[0].complements = 2;
-    values.rows[1].complements = 1;
-    add_complement(&mut values, "LIB", "VIREMENT RECU");
-    add_complement(&mut values, "MMO", "USD200000000002700");
-    add_complement(&mut values, "NPY", "UN CLIENT");
-    values
-}
-
-/// Adds 73 bytes and no count.
-pub fn add_complement(values: &mut Values, qualifier: &str, information: &str) {
-    let complement = format!("{qualifier}{information:70}");
-    values.complements.extend(complement.bytes());
-}
 
 /// A statement without movements.
 fn no_movement(balance: i64) -> Values {

@@ -1,6 +1,6 @@
 //! Fixed cases that read a table, and statements read and written again.
 
-use super::{reading, Call, TableCase};
+use super::calls::{reading, Call, TableCase};
 use crate::damage::{giants, recipes};
 use crate::hostile;
 use crate::rng::Rng;

@@ -3,7 +3,7 @@
 
 use std::slice::from_mut;
 
-use super::edges::with_complements;
+use super::worked::with_complements;
 use crate::values::Values;
 
 /// Bytes on both sides of the borders of digits, capitals and permitted bytes, and some others.

@@ -1,0 +1,152 @@
+//! A series of operations on a journal, recorded with the answer of each call.
+
+use std::io::{self, Error};
+
+use crate::answers::Numbers;
+use crate::case_file::put_bytes;
+use crate::check::RECORD;
+use crate::delivery::deliver;
+use crate::journal::{entry, open, TABLE};
+use crate::read::Refusal;
+use crate::series::{operations, Operation};
+
+/// A series that is run while it is written. Only what is exported is in it: the sound test and
+/// the newest statement are left out.
+pub struct Series {
+    pub name: String,
+    journal: Vec<u8>,
+    /// Pokes one after another, not written yet: the first offset and the bytes.
+    pokes: (u64, Vec<u8>),
+    operations: u32,
+    bytes: Vec<u8>,
+    answers: Vec<Numbers>,
+}
+
+impl Series {
+    pub fn new(name: impl Into<String>) -> Series {
+        Series {
+            name: name.into(),
+            journal: Vec::new(),
+            pokes: (0, Vec::new()),
+            operations: 0,
+            bytes: Vec::new(),
+            answers: Vec::new(),
+        }
+    }
+
+    /// A series that stands in its text form.
+    pub fn of(name: &str, text: &[u8]) -> io::Result<Series> {
+        let mut series = Series::new(name);
+        for operation in operations(text).map_err(Error::other)? {
+            series.perform(operation);
+        }
+        Ok(series.end())
+    }
+
+    /// Performs one operation and writes it with its answer.
+    pub fn perform(&mut self, operation: Operation) {
+        match operation {
+            Operation::Journal { length } => self.buffer(length),
+            Operation::Open => {
+                self.begin(b'O');
+                let answer = open(&mut self.journal).map(|()| [0; 3]);
+                self.answer(answer);
+            }
+            Operation::Entry { number } => self.entry(number),
+            Operation::Poke { offset, byte } => self.poke(offset, &[byte]),
+            Operation::Deliver { line_end, file } => self.deliver(line_end, file),
+            Operation::Sound | Operation::Newest { .. } => {}
+        }
+    }
+
+    fn buffer(&mut self, length: usize) {
+        self.begin(b'J');
+        self.number(length as u64);
+        self.journal = vec![b'.'; length];
+    }
+
+    fn entry(&mut self, number: u64) {
+        self.begin(b'E');
+        self.number(number);
+        let answer = entry(&self.journal, number);
+        self.answer(answer.map(|place| {
+            let records = place.length / RECORD;
+            let first_line = (place.first - TABLE) / RECORD;
+            [records as u64, first_line as u64, 0]
+        }));
+    }
+
+    fn deliver(&mut self, line_end: u64, file: &[u8]) {
+        self.begin(b'D');
+        self.number(line_end);
+        put_bytes(&mut self.bytes, file);
+        let answer = deliver(&mut self.journal, line_end, file);
+        self.answer(answer.map(|done| [done.stored, done.held, 0]));
+    }
+
+    /// Puts bytes into the journal; those outside it are left out.
+    pub fn poke(&mut self, offset: u64, bytes: &[u8]) {
+        let (first, pending) = &self.pokes;
+        if first.checked_add(pending.len() as u64) != Some(offset) {
+            self.end_pokes();
+            self.pokes.0 = offset;
+        }
+        self.pokes.1.extend(bytes);
+        let places = (offset as usize..self.journal.len()).zip(bytes);
+        for (place, &byte) in places {
+            self.journal[place] = byte;
+        }
+    }
+
+    fn end_pokes(&mut self) {
+        let (offset, bytes) = std::mem::take(&mut self.pokes);
+        if !bytes.is_empty() {
+            self.operations += 1;
+            self.bytes.push(b'P');
+            self.number(offset);
+            put_bytes(&mut self.bytes, &bytes);
+        }
+    }
+
+    fn begin(&mut self, letter: u8) {
+        self.end_pokes();
+        self.operations += 1;
+        self.bytes.push(letter);
+    }
+
+    fn number(&mut self, number: u64) {
+        self.bytes.extend(number.to_le_bytes());
+    }
+
+    /// The answer, then a hash over the journal as the call leaves it.
+    fn answer(&mut self, answer: Result<[u64; 3], Refusal>) {
+        let answer = Numbers::of_call(answer);
+        self.answers.push(answer);
+        answer.put(&mut self.bytes);
+        let hash = fnv(&self.journal);
+        self.number(hash);
+    }
+
+    /// The whole series. Its journal, which may be large, is let go.
+    pub fn end(mut self) -> Series {
+        self.end_pokes();
+        self.journal = Vec::new();
+        self
+    }
+
+    /// The series without its name: the number of operations, then the operations.
+    pub fn body(&self) -> Vec<u8> {
+        [&self.operations.to_le_bytes(), &self.bytes[..]].concat()
+    }
+
+    /// The refusal in each of the answers or 0.
+    pub fn numbers(&self) -> Vec<u32> {
+        self.answers.iter().map(|answer| answer.number).collect()
+    }
+}
+
+/// FNV-1a of 64 bits.
+pub fn fnv(bytes: &[u8]) -> u64 {
+    let step = |hash: u64, &byte: &u8| (hash ^ u64::from(byte)).wrapping_mul(0x100_0000_01B3);
+    bytes.iter().fold(0xCBF2_9CE4_8422_2325, step)
+}
