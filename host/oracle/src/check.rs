@@ -4,7 +4,7 @@
 
 /// Bytes of a record without its line end.
 pub const RECORD: usize = 120;
-const MOST_RECORDS_IN_FILE: usize = 20_000;
+const MOST_RECORDS_IN_FILE: u64 = 20_000;
 const MOST_RECORDS_IN_STATEMENT: u64 = 9_999;
 
 /// The whole answer of the check.
@@ -23,20 +23,13 @@ pub enum Answer {
 
 /// Judges a whole file. Refusals 1 to 3 come first, then the first record at fault, 14 last.
 pub fn check(line_end: u64, file: &[u8]) -> Answer {
-    let end = match line_end_bytes(line_end) {
-        Some(end) => end,
-        None => return refused(1, 0),
+    let records = match records_in(line_end, file.len() as u64) {
+        Ok(records) => records as usize,
+        Err(number) => return refused(number, 0),
     };
-    let line_length = RECORD + end.len();
-    if file.len() % line_length != 0 {
-        return refused(2, 0);
-    }
-    let records = file.len() / line_length;
-    if records > MOST_RECORDS_IN_FILE {
-        return refused(3, 0);
-    }
+    let end = line_end_bytes(line_end).expect("refusal 1 came first");
     let mut reader = Reader::new(end);
-    for (index, line) in file.chunks_exact(line_length).enumerate() {
+    for (index, line) in file.chunks_exact(RECORD + end.len()).enumerate() {
         if let Err(number) = reader.take(line) {
             return refused(number, index + 1);
         }
@@ -49,6 +42,16 @@ pub fn check(line_end: u64, file: &[u8]) -> Answer {
         movements: reader.movements,
         complements: reader.complements,
     }
+}
+
+/// The number of records in a file of that length, or the first of refusals 1 to 3 that applies.
+pub fn records_in(line_end: u64, length: u64) -> Result<u64, u32> {
+    let end = line_end_bytes(line_end).ok_or(1u32)?;
+    let line_length = (RECORD + end.len()) as u64;
+    require(length % line_length == 0, 2)?;
+    let records = length / line_length;
+    require(records <= MOST_RECORDS_IN_FILE, 3)?;
+    Ok(records)
 }
 
 fn refused(number: u32, record: usize) -> Answer {

@@ -1,4 +1,4 @@
-//! The journal: opening, the sound test, the body of an entry.
+//! The journal: opening, the sound test, the body of an entry, how much is used.
 //!
 //! The sound test goes the long way round: it reads the list of statements out of the table and
 //! the body lines, lays that list out again and compares all bytes. What `lay_out` gives is the
@@ -15,8 +15,8 @@ pub const ENTRY: usize = 60;
 pub const TABLE: usize = ENTRIES * ENTRY;
 const MOST_LINES: usize = 100_000;
 
-const NOT_SOUND: u32 = 21;
-const NO_ENTRY: u32 = 25;
+pub const NOT_SOUND: u32 = 21;
+pub const NO_ENTRY: u32 = 25;
 
 /// A statement as a journal holds it: its records without line ends, and what they say.
 #[derive(Clone, Debug, PartialEq, Eq)]
@@ -99,6 +99,26 @@ pub fn held(journal: &[u8]) -> Result<Vec<Held>, Refusal> {
     } else {
         Err(refusal(NOT_SOUND))
     }
+}
+
+/// How much of a journal is used.
+#[derive(Clone, Copy, Debug, PartialEq, Eq)]
+pub struct Used {
+    pub statements: usize,
+    /// The body lines that they take.
+    pub lines_taken: usize,
+    /// The body lines in all.
+    pub lines: usize,
+}
+
+/// How much of a sound journal is used; else 21.
+pub fn used(journal: &[u8]) -> Result<Used, Refusal> {
+    let list = held(journal)?;
+    Ok(Used {
+        statements: list.len(),
+        lines_taken: list.iter().map(Held::lines).sum(),
+        lines: (journal.len() - TABLE) / RECORD,
+    })
 }
 
 /// Where the body of entry e stands, in bytes from the journal's first; entries count from 1.
@@ -210,6 +230,6 @@ fn blank(bytes: &[u8]) -> bool {
 }
 
 /// A refusal of the journal itself reports record 0.
-fn refusal(number: u32) -> Refusal {
+pub fn refusal(number: u32) -> Refusal {
     Refusal { number, record: 0 }
 }

@@ -2,6 +2,7 @@
 
 mod command;
 mod common;
+mod contents;
 mod delivery;
 mod journal;
 mod listing;
