@@ -15,11 +15,15 @@
 #include "crownhazel.h"
 
 enum {
-    MOST_FILE = 1 << 22,   /* bytes of a file in a case */
-    MOST_JOURNAL = 1 << 24 /* bytes of a journal in a case */
+    MOST_FILE = 1 << 22,    /* bytes of a file in a case */
+    MOST_JOURNAL = 1 << 24, /* bytes of a journal in a case */
+    MOST_ROW = 1000,        /* bytes of a row in a case */
+    BEFORE_ROW = 64,        /* bytes before a row that are looked at too */
+    ROW_SHELF = 1 << 16,    /* room for both, in whole pages */
+    UNTOUCHED = '#'         /* what stands in and before a row that was not written */
 };
 
-static struct shelf files, journals;
+static struct shelf files, journals, rows;
 static uint8_t *file_copy;
 
 static struct slice take_file(struct source *source) {
@@ -62,9 +66,15 @@ static struct answer unpacked(char call, uint64_t number) {
     } else if (call == 'D') {
         answer.a = crownhazel_stored(number);
         answer.b = crownhazel_held(number);
-    } else if (call == 'E') {
+    } else if (call == 'E' || call == 'L') {
         answer.a = crownhazel_records(number);
         answer.b = crownhazel_first_line(number);
+    } else if (call == 'U') {
+        answer.a = crownhazel_entries_used(number);
+        answer.b = crownhazel_lines_used(number);
+        answer.c = crownhazel_lines(number);
+    } else if (call == 'R') {
+        answer.a = crownhazel_records_in(number);
     }
     return answer;
 }
@@ -121,19 +131,63 @@ static bool is_file(const struct place *place, struct slice file) {
     return same;
 }
 
-/* One file, its line-end number and what the check answers. */
-static bool run_check(struct source *source, struct place *place) {
+/* Whether the row begins with the bytes expected, and all else in it and before it is as it was. */
+static bool is_row(const struct place *place, struct slice put, struct slice row) {
+    uint8_t expected[BEFORE_ROW + MOST_ROW];
+    const uint8_t *came = row.first - BEFORE_ROW;
+    size_t length = BEFORE_ROW + row.length, i = 0;
+    memset(expected, UNTOUCHED, sizeof expected);
+    memcpy(expected + BEFORE_ROW, put.first, put.length);
+    while (i < length && came[i] == expected[i]) {
+        i++;
+    }
+    if (i < length && begin_difference(place)) {
+        ptrdiff_t offset = (ptrdiff_t)i - BEFORE_ROW;
+        printf("expected 0x%02X at offset %td of the row, came 0x%02X\n", expected[i], offset, came[i]);
+    }
+    return i == length;
+}
+
+/* One file, its line-end number, what the check answers and what its length alone answers. */
+static bool run_file(struct source *source, struct place *place) {
     uint64_t line_end = take_number(source, 8);
     struct slice file = take_file(source);
-    struct answer expected = take_answer(source);
+    struct answer checked = take_answer(source);
+    struct answer by_length = take_answer(source);
     bool same = true;
-    place->call = 'C';
+    place->operation = 1;
     memcpy(file_copy, file.first, file.length);
     for (unsigned way = 0; way < ways(file) && !source->broken; way++) {
-        same &= is_answer(place, expected, crownhazel_check(line_end, lent(file, way), file.length));
+        same &= is_answer(place, checked, crownhazel_check(line_end, lent(file, way), file.length));
         same &= is_file(place, file);
     }
+    place->operation = 2;
+    place->call = 'R';
+    if (!source->broken) {
+        same &= is_answer(place, by_length, crownhazel_length(line_end, file.length));
+    }
     return same;
+}
+
+/* A length that no file needs to have. */
+static bool run_length(struct source *source, const struct place *place) {
+    uint64_t line_end = take_number(source, 8);
+    uint64_t length = take_number(source, 8);
+    struct answer expected = take_answer(source);
+    return source->broken || is_answer(place, expected, crownhazel_length(line_end, length));
+}
+
+static bool run_check(struct source *source, struct place *place) {
+    place->call = (char)take_number(source, 1);
+    switch (place->call) {
+    case 'C':
+        return run_file(source, place);
+    case 'R':
+        return run_length(source, place);
+    default:
+        fault(source, "has a case that there is not");
+        return false;
+    }
 }
 
 static bool run_open(struct source *source, const struct place *place, struct slice journal) {
@@ -155,6 +209,35 @@ static bool run_entry(struct source *source, const struct place *place, struct s
     for (unsigned way = 0; way < ways(journal) && !source->broken; way++) {
         same &= is_answer(place, expected, crownhazel_entry(lent(journal, way), journal.length, entry));
         same &= is_journal(place, after, journal);
+    }
+    return same;
+}
+
+static bool run_used(struct source *source, const struct place *place, struct slice journal) {
+    struct answer expected = take_answer(source);
+    uint64_t after = take_number(source, 8);
+    bool same = true;
+    for (unsigned way = 0; way < ways(journal) && !source->broken; way++) {
+        same &= is_answer(place, expected, crownhazel_used(lent(journal, way), journal.length));
+        same &= is_journal(place, after, journal);
+    }
+    return same;
+}
+
+/* The journal is looked at after the next call that has its hash. */
+static bool run_listed(struct source *source, const struct place *place, struct slice journal) {
+    uint64_t entry = take_number(source, 8);
+    struct slice row = lend(rows, take_length(source, 8, MOST_ROW));
+    struct answer expected = take_answer(source);
+    struct slice put = take_bytes(source, files, row.length);
+    bool same = true;
+    for (unsigned way = 0; way < ways(journal) * ways(row) && !source->broken; way++) {
+        uint8_t *lent_journal = lent(journal, way % ways(journal));
+        uint8_t *lent_row = lent(row, way / ways(journal));
+        memset(row.first - BEFORE_ROW, UNTOUCHED, BEFORE_ROW + row.length);
+        uint64_t came = crownhazel_listed(lent_journal, journal.length, entry, lent_row, row.length);
+        same &= is_answer(place, expected, came);
+        same &= is_row(place, put, row);
     }
     return same;
 }
@@ -209,6 +292,10 @@ static bool run_operation(struct source *source, const struct place *place, stru
         return run_entry(source, place, *journal);
     case 'D':
         return run_delivery(source, place, *journal);
+    case 'U':
+        return run_used(source, place, *journal);
+    case 'L':
+        return run_listed(source, place, *journal);
     default:
         fault(source, "has an operation that there is not");
         return false;
@@ -235,6 +322,7 @@ int main(int count, char **arguments) {
     catch_signals();
     files = new_shelf(MOST_FILE);
     journals = new_shelf(MOST_JOURNAL);
+    rows = new_shelf(ROW_SHELF);
     file_copy = new_memory(MOST_FILE);
     replay_file(arguments[1], "check", "CHCHECKS", run_check);
     replay_file(arguments[2], "series", "CHSERIES", run_series);

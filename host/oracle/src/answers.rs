@@ -2,7 +2,7 @@
 
 use std::collections::BTreeMap;
 
-use crate::check::{check, Answer};
+use crate::check::{check, records_in, Answer};
 use crate::read::Refusal;
 
 /// An answer in the paper's numbers: kind (0 answered, 1 refused), refusal, record, three values.
@@ -42,6 +42,14 @@ impl Numbers {
                 complements,
             } => Numbers::answered([statements, movements, complements]),
             Answer::Refused { number, record } => Numbers::refused(number, record),
+        }
+    }
+
+    /// What the length of a file alone answers.
+    pub fn of_length(line_end: u64, length: u64) -> Numbers {
+        match records_in(line_end, length) {
+            Ok(records) => Numbers::answered([records, 0, 0]),
+            Err(number) => Numbers::refused(number, 0),
         }
     }
 

@@ -62,6 +62,34 @@ fn add_lengths(rng: &mut Rng, cases: &mut Vec<Case>) {
     }
 }
 
+/// Line-end numbers with lengths that no file in memory need have.
+pub fn lengths() -> Vec<(u64, u64)> {
+    let right = (0..3).flat_map(|line_end| {
+        let line = RECORD as u64 + line_end;
+        let most = u64::MAX - u64::MAX % line;
+        // A multiple of the line that is a short file where its upper bits are lost.
+        let cut = [1 << 20, 1 << 32, 1 << 40, 1 << 56].map(|factor| factor * line);
+        let near = [0, line, 2 * line, 20_000 * line, 20_001 * line, most];
+        let near = near.into_iter().chain(cut).flat_map(around);
+        let far = FAR_OUT
+            .into_iter()
+            .chain((0..6).map(|less| u64::MAX - less));
+        near.chain(far).map(move |length| (line_end, length))
+    });
+    let wrong = FAR_OUT.into_iter().flat_map(|line_end| {
+        let line = line_end.wrapping_add(RECORD as u64);
+        let lengths = [0, 1, 120, 121, 122, line, 2_400_120, u64::MAX];
+        lengths.into_iter().map(move |length| (line_end, length))
+    });
+    right.chain(wrong).collect()
+}
+
+/// The number and its two neighbours, where there are such.
+fn around(number: u64) -> impl Iterator<Item = u64> {
+    let neighbours = [number.checked_sub(1), Some(number), number.checked_add(1)];
+    neighbours.into_iter().flatten()
+}
+
 /// A refusal of the file as a whole.
 fn refused(number: u32) -> Answer {
     Answer::Refused { number, record: 0 }

@@ -2,8 +2,10 @@
 //! speak of lines that are not there, entries and line ends far out.
 
 use crate::check::RECORD;
+use crate::contents::ROW;
 use crate::delivery::deliver;
 use crate::hostile::{random_bytes, FAR_OUT};
+use crate::hostile_entries;
 use crate::journal::{ENTRIES, ENTRY, TABLE};
 use crate::recorded::Series;
 use crate::rng::Rng;
@@ -20,6 +22,7 @@ pub fn series(rng: &mut Rng) -> Vec<Series> {
     }
     add_strange_contents(rng, &mut list);
     add_cut_journals(rng, &mut list);
+    add_strange_entries(rng, &mut list);
     list
 }
 
@@ -65,6 +68,7 @@ fn numbers_far_out(rng: &mut Rng) -> Series {
     for byte in b" ." {
         series.poke(TABLE as u64 - 1, &[*byte]);
         for number in FAR_OUT {
+            series.listed(number, ROW);
             series.perform(Operation::Entry { number });
             for file in [&file[..], b"", &file[..1]] {
                 let line_end = number;
@@ -128,15 +132,50 @@ fn add_strange_contents(rng: &mut Rng, list: &mut Vec<Series>) {
     }
 }
 
-/// A filled journal with its last lines cut off, one by one, and with a line more than it had.
+/// A filled journal with its last lines cut off, one by one, and with a line more than it had;
+/// each also without its last byte.
 fn add_cut_journals(rng: &mut Rng, list: &mut Vec<Series>) {
     let (mut journal, file) = filled_journal(rng);
     journal.extend([b' '; RECORD]);
     while journal.len() >= TABLE {
-        let name = format!("hostile-journal-cut-to-{}", journal.len());
-        list.push(given_journal(name, &journal, &file));
+        for length in [journal.len(), journal.len() - 1] {
+            let name = format!("hostile-journal-cut-to-{length}");
+            list.push(given_journal(name, &journal[..length], &file));
+        }
         journal.truncate(journal.len() - RECORD);
     }
+}
+
+/// Tables that no delivery writes, in journals of few lines and in the longest. Each entry is
+/// listed.
+fn add_strange_entries(rng: &mut Rng, list: &mut Vec<Series>) {
+    for table in hostile_entries::years(rng) {
+        list.push(given_table("hostile-years", &table, 1));
+    }
+    for lines in [0, 1, 2, 9, 100, 12_345, 100_000] {
+        let name = format!("hostile-entries-{lines}");
+        let tables = if lines > 1_000 { 1 } else { 4 };
+        for _ in 0..tables {
+            let table = hostile_entries::strange(rng, lines);
+            list.push(given_table(&name, &table, lines as usize));
+        }
+    }
+}
+
+/// A journal with this table and so many lines, asked for each entry, right and one byte too long.
+fn given_table(name: &str, table: &[u8], lines: usize) -> Series {
+    let mut series = Series::new(name);
+    for more in 0..2 {
+        let length = TABLE + RECORD * lines + more;
+        series.perform(Operation::Journal { length });
+        series.poke(0, table);
+        for number in 1..=ENTRIES as u64 {
+            let row = ROW + number as usize % 3;
+            series.listed(number, row);
+        }
+        series.used();
+    }
+    series.end()
 }
 
 /// A journal with two statements and no line to spare, and the file they came in.

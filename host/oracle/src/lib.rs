@@ -13,6 +13,7 @@ pub mod contents;
 pub mod damage;
 pub mod delivery;
 pub mod hostile;
+pub mod hostile_entries;
 pub mod hostile_series;
 pub mod journal;
 pub mod listing;

@@ -1,17 +1,20 @@
 //! A series of operations on a journal, recorded with the answer of each call.
 
+use std::collections::BTreeSet;
 use std::io::{self, Error};
 
 use crate::answers::Numbers;
 use crate::case_file::put_bytes;
 use crate::check::RECORD;
+use crate::contents::{listed, ROW};
 use crate::delivery::deliver;
-use crate::journal::{entry, open, TABLE};
+use crate::journal::{entry, open, used, Used, ENTRIES, ENTRY, TABLE};
 use crate::read::Refusal;
 use crate::series::{operations, Operation};
 
 /// A series that is run while it is written. Only what is exported is in it: the sound test and
-/// the newest statement are left out.
+/// the newest statement are left out. After the first call on a changed journal questions are put
+/// in: what its entries say, and how much of it is used.
 pub struct Series {
     pub name: String,
     journal: Vec<u8>,
@@ -20,6 +23,8 @@ pub struct Series {
     operations: u32,
     bytes: Vec<u8>,
     answers: Vec<Numbers>,
+    /// Whether the journal was asked since it last changed.
+    asked: bool,
 }
 
 impl Series {
@@ -31,6 +36,7 @@ impl Series {
             operations: 0,
             bytes: Vec::new(),
             answers: Vec::new(),
+            asked: false,
         }
     }
 
@@ -47,11 +53,7 @@ impl Series {
     pub fn perform(&mut self, operation: Operation) {
         match operation {
             Operation::Journal { length } => self.buffer(length),
-            Operation::Open => {
-                self.begin(b'O');
-                let answer = open(&mut self.journal).map(|()| [0; 3]);
-                self.answer(answer);
-            }
+            Operation::Open => self.open(),
             Operation::Entry { number } => self.entry(number),
             Operation::Poke { offset, byte } => self.poke(offset, &[byte]),
             Operation::Deliver { line_end, file } => self.deliver(line_end, file),
@@ -63,17 +65,29 @@ impl Series {
         self.begin(b'J');
         self.number(length as u64);
         self.journal = vec![b'.'; length];
+        self.asked = false;
+    }
+
+    fn open(&mut self) {
+        self.begin(b'O');
+        let answer = open(&mut self.journal);
+        if answer.is_ok() {
+            self.asked = false;
+        }
+        self.answer_on_journal(answer.map(|()| [0; 3]));
+        self.ask();
     }
 
     fn entry(&mut self, number: u64) {
         self.begin(b'E');
         self.number(number);
         let answer = entry(&self.journal, number);
-        self.answer(answer.map(|place| {
+        self.answer_on_journal(answer.map(|place| {
             let records = place.length / RECORD;
             let first_line = (place.first - TABLE) / RECORD;
             [records as u64, first_line as u64, 0]
         }));
+        self.ask();
     }
 
     fn deliver(&mut self, line_end: u64, file: &[u8]) {
@@ -81,7 +95,62 @@ impl Series {
         self.number(line_end);
         put_bytes(&mut self.bytes, file);
         let answer = deliver(&mut self.journal, line_end, file);
-        self.answer(answer.map(|done| [done.stored, done.held, 0]));
+        if answer.is_ok_and(|done| done.stored > 0) {
+            self.asked = false;
+        }
+        self.answer_on_journal(answer.map(|done| [done.stored, done.held, 0]));
+        self.ask();
+    }
+
+    /// The questions for a journal that has changed: entries around those used and far out, rows
+    /// around the right length. How much is used comes last, as its hash stands for all of them.
+    fn ask(&mut self) {
+        if self.asked {
+            return;
+        }
+        let last = self.entries_used();
+        let between = 1 + u64::from(self.operations) % last.max(1);
+        let numbers = [0, 1, between, last, last + 1, 128, 129, u64::MAX];
+        for number in BTreeSet::from(numbers) {
+            self.listed(number, ROW);
+        }
+        for (number, row) in [(last, 0), (last, 40), (last, 60), (last + 1, 40)] {
+            self.listed(number, row);
+        }
+        self.used();
+    }
+
+    /// How many entries, from the first on, do not say that they are unused.
+    fn entries_used(&self) -> u64 {
+        let entries = self.journal.chunks_exact(ENTRY).take(ENTRIES);
+        entries.take_while(|entry| entry[43] != b' ').count() as u64
+    }
+
+    /// What an entry says, in a row of so many bytes.
+    pub fn listed(&mut self, number: u64, row: usize) {
+        self.begin(b'L');
+        self.number(number);
+        self.number(row as u64);
+        let mut row = vec![0; row];
+        let answer = listed(&self.journal, number, &mut row);
+        self.answer(answer.map(|found| [found.records as u64, found.first_line as u64, 0]));
+        let put = if answer.is_ok() { &row[..ROW] } else { b"" };
+        put_bytes(&mut self.bytes, put);
+    }
+
+    /// How much of the journal is used.
+    pub fn used(&mut self) {
+        self.begin(b'U');
+        let answer = used(&self.journal);
+        self.answer_on_journal(answer.map(|used| {
+            let Used {
+                statements,
+                lines_taken,
+                lines,
+            } = used;
+            [statements, lines_taken, lines].map(|number| number as u64)
+        }));
+        self.asked = true;
     }
 
     /// Puts bytes into the journal; those outside it are left out.
@@ -92,6 +161,7 @@ impl Series {
             self.pokes.0 = offset;
         }
         self.pokes.1.extend(bytes);
+        self.asked = false;
         let places = (offset as usize..self.journal.len()).zip(bytes);
         for (place, &byte) in places {
             self.journal[place] = byte;
@@ -118,11 +188,15 @@ impl Series {
         self.bytes.extend(number.to_le_bytes());
     }
 
-    /// The answer, then a hash over the journal as the call leaves it.
     fn answer(&mut self, answer: Result<[u64; 3], Refusal>) {
         let answer = Numbers::of_call(answer);
         self.answers.push(answer);
         answer.put(&mut self.bytes);
+    }
+
+    /// The answer, then a hash over the journal as the call leaves it.
+    fn answer_on_journal(&mut self, answer: Result<[u64; 3], Refusal>) {
+        self.answer(answer);
         let hash = fnv(&self.journal);
         self.number(hash);
     }

@@ -23,10 +23,14 @@ pub const SERIES: &[u8; 8] = b"CHSERIES";
 /// Writes the fixed checks and so many generated ones. Gives a line that says what they are.
 pub fn replay_checks(seed: u64, count: u64, path: &Path) -> io::Result<String> {
     let mut rng = Rng::new(seed);
-    let fixed = fixed_checks(&mut rng);
-    let total = fixed.len() as u64 + count;
-    let mut cases = Cases::create(path, CHECKS, seed, total)?;
-    for case in &fixed {
+    let lengths = hostile::lengths();
+    let files = fixed_checks(&mut rng);
+    let fixed = (lengths.len() + files.len()) as u64;
+    let mut cases = Cases::create(path, CHECKS, seed, fixed + count)?;
+    for (line_end, length) in lengths {
+        add_length(&mut cases, line_end, length)?;
+    }
+    for case in &files {
         add_check(&mut cases, case)?;
     }
     let list = recipes();
@@ -35,19 +39,32 @@ pub fn replay_checks(seed: u64, count: u64, path: &Path) -> io::Result<String> {
     }
     let tally = cases.finish()?;
     Ok(format!(
-        "checks: seed {seed}, {} fixed, {count} generated: {}",
-        fixed.len(),
+        "checks: seed {seed}, {fixed} fixed, {count} generated: {}",
         tally.words()
     ))
 }
 
-/// Line-end number, file, answer.
+/// A file: letter, line-end number, file, the answer of the check, that to its length.
 pub fn add_check(cases: &mut Cases, case: &Case) -> io::Result<()> {
-    let answer = Numbers::of_check(case.line_end, &case.bytes);
-    let mut body = case.line_end.to_le_bytes().to_vec();
+    let checked = Numbers::of_check(case.line_end, &case.bytes);
+    let by_length = Numbers::of_length(case.line_end, case.bytes.len() as u64);
+    let mut body = vec![b'C'];
+    body.extend(case.line_end.to_le_bytes());
     put_bytes(&mut body, &case.bytes);
+    checked.put(&mut body);
+    by_length.put(&mut body);
+    cases.add(&case.name, &body, &[checked.number])
+}
+
+/// A length without a file: letter, line-end number, length, answer.
+pub fn add_length(cases: &mut Cases, line_end: u64, length: u64) -> io::Result<()> {
+    let answer = Numbers::of_length(line_end, length);
+    let mut body = vec![b'R'];
+    body.extend(line_end.to_le_bytes());
+    body.extend(length.to_le_bytes());
     answer.put(&mut body);
-    cases.add(&case.name, &body, &[answer.number])
+    let name = format!("length-{length}-line-end-{line_end}");
+    cases.add(&name, &body, &[answer.number])
 }
 
 /// The large files, which show refusals 3 and 15, and the hostile ones.

@@ -5,13 +5,16 @@ mod replays;
 use std::collections::BTreeSet;
 
 use oracle::case_file::Cases;
-use oracle::check::{check, Answer};
+use oracle::check::{check, records_in, Answer};
+use oracle::contents::listed;
 use oracle::damage::Case;
 use oracle::delivery::deliver;
-use oracle::journal::{entry, open};
+use oracle::journal::{entry, open, used};
 use oracle::read::Refusal;
 use oracle::recorded::{fnv, Series};
-use oracle::replay::{add_check, add_series, replay_checks, replay_series, CHECKS, SERIES};
+use oracle::replay::{
+    add_check, add_length, add_series, replay_checks, replay_series, CHECKS, SERIES,
+};
 use oracle::rng::Rng;
 use oracle::series::{operations, Operation};
 use oracle::series_cases::{series_case, KINDS};
@@ -43,10 +46,18 @@ fn checked(line_end: u64, file: &[u8]) -> Numbers {
     }
 }
 
+fn of_length(line_end: u64, length: u64) -> Numbers {
+    match records_in(line_end, length) {
+        Ok(records) => [0, 0, 0, records, 0, 0],
+        Err(number) => refused(Refusal { number, record: 0 }),
+    }
+}
+
 #[test]
-fn a_check_by_hand_is_read_back() {
+fn checks_by_hand_are_read_back() {
     let path = path("by-hand.checks");
-    let mut cases = Cases::create(&path, CHECKS, 9, 2).unwrap();
+    let mut cases = Cases::create(&path, CHECKS, 9, 3).unwrap();
+    add_length(&mut cases, 1, 242).unwrap();
     for (name, line_end, bytes) in [("empty", 2, &b""[..]), ("far-out", u64::MAX, b"0\xFF")] {
         let case = Case {
             name: name.to_string(),
@@ -57,12 +68,16 @@ fn a_check_by_hand_is_read_back() {
         add_check(&mut cases, &case).unwrap();
     }
     let tally = cases.finish().unwrap();
-    assert_eq!(tally.0.into_iter().collect::<Vec<_>>(), [(0, 1), (1, 1)]);
+    assert_eq!(tally.0.into_iter().collect::<Vec<_>>(), [(0, 2), (1, 1)]);
     let expected = [
-        &b"CHCHECKS\x09\0\0\0\0\0\0\0\x02\0\0\0\0\0\0\0"[..],
-        b"\x05\0\0\0empty\x02\0\0\0\0\0\0\0\0\0\0\0",
+        &b"CHCHECKS\x09\0\0\0\0\0\0\0\x03\0\0\0\0\0\0\0"[..],
+        b"\x15\0\0\0length-242-line-end-1R\x01\0\0\0\0\0\0\0\xF2\0\0\0\0\0\0\0",
+        b"\0\0\0\0\0\0\0\0\0\x02\0\0\0\0\0\0\0\0\0\0\0",
+        b"\x05\0\0\0emptyC\x02\0\0\0\0\0\0\0\0\0\0\0",
         b"\0\0\0\0\0\0\0\0\0\0\0\0\0\0\0\0\0\0\0\0\0",
-        b"\x07\0\0\0far-out\xFF\xFF\xFF\xFF\xFF\xFF\xFF\xFF\x02\0\0\x000\xFF",
+        b"\0\0\0\0\0\0\0\0\0\0\0\0\0\0\0\0\0\0\0\0\0",
+        b"\x07\0\0\0far-outC\xFF\xFF\xFF\xFF\xFF\xFF\xFF\xFF\x02\0\0\x000\xFF",
+        b"\x01\x01\0\0\0\0\0\0\0\0\0\0\0\0\0\0\0\0\0\0\0",
         b"\x01\x01\0\0\0\0\0\0\0\0\0\0\0\0\0\0\0\0\0\0\0",
     ];
     assert!(std::fs::read(&path).unwrap() == expected.concat());
@@ -76,27 +91,51 @@ fn hostile_checks_get_the_answer_they_expect() {
     }
 }
 
-/// Every refusal of the check occurs, and the answers are the check's.
+/// Every refusal of the check occurs, and the answers are the check's and those to the length.
 #[test]
 fn checks_are_read_back() {
     let path = path("generated.checks");
     let line = replay_checks(3, 2_000, &path).unwrap();
-    assert!(line.starts_with("checks: seed 3, 1556 fixed, 2000 generated: answered "));
+    assert!(line.starts_with("checks: seed 3, 1837 fixed, 2000 generated: answered "));
     let file = std::fs::read(&path).unwrap();
     let mut reader = Reader(&file);
     let mut refusals = BTreeSet::new();
     for _ in 0..reader.cases(CHECKS, 3) {
         assert!(!reader.bytes().is_empty());
-        let (line_end, file) = (reader.number(8), reader.bytes());
-        let answer = reader.answer();
-        assert_eq!(answer, checked(line_end, file));
-        refusals.insert(answer[1]);
+        let (letter, line_end) = (reader.number(1) as u8, reader.number(8));
+        let length = match letter {
+            b'C' => {
+                let file = reader.bytes();
+                let answer = reader.answer();
+                assert_eq!(answer, checked(line_end, file));
+                refusals.insert(answer[1]);
+                file.len() as u64
+            }
+            b'R' => reader.number(8),
+            _ => panic!("unknown letter {letter}"),
+        };
+        assert_eq!(reader.answer(), of_length(line_end, length));
     }
     assert!(reader.0.is_empty());
     assert_eq!(refusals, (0..=15).collect());
 }
 
+/// Questions for entries, each with the length of its row, that are all refused with 25.
+fn no_such_entries(questions: &[(u64, u64)]) -> Vec<u8> {
+    let mut bytes = Vec::new();
+    for (entry, row) in questions {
+        bytes.push(b'L');
+        bytes.extend(entry.to_le_bytes());
+        bytes.extend(row.to_le_bytes());
+        bytes.extend(b"\x01\x19\0\0\0\0\0\0\0\0\0\0\0\0\0\0\0\0\0\0\0");
+        bytes.extend(b"\0\0\0\0");
+    }
+    bytes
+}
+
 /// A journal of two lines: pokes that touch are one, the sound test and the newest are left out.
+/// Questions are put in after the entry and after the opening; the delivery changes nothing. A
+/// table of dots looks full, with bodies far out.
 #[test]
 fn a_series_by_hand_is_read_back() {
     let path = path("by-hand.series");
@@ -127,20 +166,63 @@ fn a_series_by_hand_is_read_back() {
     cases.finish().unwrap();
     let mut dots = vec![b'.'; length];
     dots[7..10].copy_from_slice(b"abc");
+    let most = u64::MAX;
     let expected = [
         &b"CHSERIES\x0A\0\0\0\0\0\0\0\x01\0\0\0\0\0\0\0"[..],
-        b"\x04\0\0\0hand\x06\0\0\0",
+        b"\x04\0\0\0hand\x1B\0\0\0",
         b"J\xF0\x1E\0\0\0\0\0\0",
         b"P\x07\0\0\0\0\0\0\0\x03\0\0\0abc",
         b"P\xFF\xFF\xFF\xFF\xFF\xFF\xFF\xFF\x01\0\0\0\0",
         b"E\x01\0\0\0\0\0\0\0",
         b"\x01\x15\0\0\0\0\0\0\0\0\0\0\0\0\0\0\0\0\0\0\0",
         &fnv(&dots).to_le_bytes(),
+        &no_such_entries(&[(0, 41), (1, 41), (5, 41), (128, 41), (129, 41), (most, 41)]),
+        &no_such_entries(&[(128, 0), (128, 40), (128, 60), (129, 40)]),
+        b"U\x01\x15\0\0\0\0\0\0\0\0\0\0\0\0\0\0\0\0\0\0\0",
+        &fnv(&dots).to_le_bytes(),
         b"O\0\0\0\0\0\0\0\0\0\0\0\0\0\0\0\0\0\0\0\0\0",
+        &fnv(&vec![b' '; length]).to_le_bytes(),
+        &no_such_entries(&[(0, 41), (1, 41), (128, 41), (129, 41), (most, 41)]),
+        &no_such_entries(&[(0, 0), (0, 40), (0, 60), (1, 40)]),
+        b"U\0\0\0\0\0\0\0\0\0\0\0\0\0\0\0\0\0\x02\0\0\0",
         &fnv(&vec![b' '; length]).to_le_bytes(),
         b"D\x02\0\0\0\0\0\0\0\x01\0\0\0x",
         b"\x01\x02\0\0\0\0\0\0\0\0\0\0\0\0\0\0\0\0\0\0\0",
         &fnv(&vec![b' '; length]).to_le_bytes(),
+    ];
+    assert!(std::fs::read(&path).unwrap() == expected.concat());
+}
+
+/// An entry of no records is listed, in a journal that is not sound and has no lines.
+#[test]
+fn a_row_by_hand_is_read_back() {
+    let path = path("by-hand-row.series");
+    let entry = b"1234500010EUR20001234567A3101992902250000000000";
+    let mut series = Series::new("row");
+    series.perform(Operation::Journal { length: TABLE });
+    series.poke(60, entry);
+    series.listed(2, 42);
+    series.listed(2, 40);
+    series.used();
+    let mut cases = Cases::create(&path, SERIES, 11, 1).unwrap();
+    add_series(&mut cases, &series.end()).unwrap();
+    cases.finish().unwrap();
+    let mut journal = vec![b'.'; TABLE];
+    journal[60..107].copy_from_slice(entry);
+    let expected = [
+        &b"CHSERIES\x0B\0\0\0\0\0\0\0\x01\0\0\0\0\0\0\0"[..],
+        b"\x03\0\0\0row\x05\0\0\0",
+        b"J\x00\x1E\0\0\0\0\0\0",
+        b"P\x3C\0\0\0\0\0\0\0\x2F\0\0\0",
+        entry,
+        b"L\x02\0\0\0\0\0\0\0\x2A\0\0\0\0\0\0\0",
+        b"\0\0\0\0\0\0\0\0\0\0\0\0\0\0\0\0\0\0\0\0\0",
+        b"\x29\0\0\x001234500010EUR20001234567A1999013100000000",
+        b"L\x02\0\0\0\0\0\0\0\x28\0\0\0\0\0\0\0",
+        b"\x01\x14\0\0\0\0\0\0\0\0\0\0\0\0\0\0\0\0\0\0\0",
+        b"\0\0\0\0",
+        b"U\x01\x15\0\0\0\0\0\0\0\0\0\0\0\0\0\0\0\0\0\0\0",
+        &fnv(&journal).to_le_bytes(),
     ];
     assert!(std::fs::read(&path).unwrap() == expected.concat());
 }
@@ -154,12 +236,17 @@ fn rerun(reader: &mut Reader, refusals: &mut BTreeSet<u64>) -> Vec<Put> {
     let mut put = Vec::new();
     for _ in 0..reader.number(4) {
         let letter = reader.number(1) as u8;
-        let a = if letter == b'O' { 0 } else { reader.number(8) };
+        let a = match letter {
+            b'O' | b'U' => 0,
+            _ => reader.number(8),
+        };
         let bytes = match letter {
             b'P' | b'D' => reader.bytes(),
             _ => b"",
         };
-        if let Some(answer) = rerun_one(&mut journal, letter, a, bytes) {
+        if letter == b'L' {
+            refusals.insert(list_again(reader, &journal, a));
+        } else if let Some(answer) = rerun_one(&mut journal, letter, a, bytes) {
             assert_eq!(reader.answer(), answer);
             assert_eq!(reader.number(8), fnv(&journal));
             refusals.insert(answer[1]);
@@ -172,7 +259,21 @@ fn rerun(reader: &mut Reader, refusals: &mut BTreeSet<u64>) -> Vec<Put> {
     put
 }
 
-/// The answer of an operation that has one.
+/// Lists an entry: the answer and the row are the same. Gives the refusal or 0.
+fn list_again(reader: &mut Reader, journal: &[u8], entry: u64) -> u64 {
+    let mut row = vec![b'#'; reader.number(8) as usize];
+    let answer = listed(journal, entry, &mut row).map(|found| {
+        let (records, first_line) = (found.records as u64, found.first_line as u64);
+        [0, 0, 0, records, first_line, 0]
+    });
+    let put = if answer.is_ok() { &row[..41] } else { b"" };
+    let answer = answer.unwrap_or_else(refused);
+    assert_eq!(reader.answer(), answer);
+    assert_eq!(reader.bytes(), put);
+    answer[1]
+}
+
+/// The answer of an operation on the whole journal that has one.
 fn rerun_one(journal: &mut Vec<u8>, letter: u8, a: u64, bytes: &[u8]) -> Option<Numbers> {
     let answer = match letter {
         b'J' => {
@@ -190,6 +291,11 @@ fn rerun_one(journal: &mut Vec<u8>, letter: u8, a: u64, bytes: &[u8]) -> Option<
             [0, 0, 0, place.length as u64 / 120, line as u64, 0]
         }),
         b'D' => deliver(journal, a, bytes).map(|done| [0, 0, 0, done.stored, done.held, 0]),
+        b'U' => used(journal).map(|used| {
+            let numbers = [used.statements, used.lines_taken, used.lines];
+            let [a, b, c] = numbers.map(|number| number as u64);
+            [0, 0, 0, a, b, c]
+        }),
         _ => panic!("unknown letter {letter}"),
     };
     Some(answer.unwrap_or_else(refused))
@@ -226,8 +332,9 @@ fn series_are_read_back() {
     let mut tried = BTreeSet::new();
     for number in 0..cases {
         let name = reader.bytes();
-        let put = rerun(&mut reader, &mut refusals);
+        let mut put = rerun(&mut reader, &mut refusals);
         tried.extend(put.iter().map(|&(letter, a, _)| (letter, a)));
+        put.retain(|(letter, ..)| !b"LU".contains(letter));
         if let Some(index) = (number + generated).checked_sub(cases) {
             let case = series_case(4, index as usize);
             assert_eq!(name, case.name.as_bytes());
@@ -235,13 +342,14 @@ fn series_are_read_back() {
         }
     }
     assert!(reader.0.is_empty());
-    assert_eq!(refusals, (0..=15).chain(21..=25).collect());
+    assert_eq!(refusals, (0..=15).chain(20..=25).collect());
     for length in [0, 1, 7_560, 7_679, 7_680, 7_681, 12_007_680, 12_007_800] {
         assert!(tried.contains(&(b'J', length)), "{length}");
     }
     for number in [3, 255, 256, 1 << 32, 1 << 63, u64::MAX] {
         assert!(tried.contains(&(b'D', number)), "{number}");
         assert!(tried.contains(&(b'E', number)), "{number}");
+        assert!(tried.contains(&(b'L', number)), "{number}");
     }
 }
 
