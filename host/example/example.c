@@ -85,26 +85,29 @@ static int deliver(uint64_t line_end, const struct bytes *file) {
     return DONE;
 }
 
-/* Prints an entry and the account that the first record of its body names. */
-static void print_entry(uint64_t number, uint64_t answer) {
-    uint32_t line = crownhazel_first_line(answer);
-    const char *body = (const char *)journal + CROWNHAZEL_CONTENTS + CROWNHAZEL_RECORD * line;
-    printf("entry %" PRIu64 ": first line %" PRIu32 ", records %" PRIu32 ", ", number, line, crownhazel_records(answer));
-    printf("account %.5s %.5s %.3s %.1s %.11s\n", body + 2, body + 11, body + 16, body + 19, body + 21);
+/* Prints where the body of an entry stands, and the account key in its row. */
+static void print_entry(uint32_t number, uint64_t answer, const uint8_t row[CROWNHAZEL_ROW]) {
+    const char *key = (const char *)row;
+    printf("entry %" PRIu32 ": first line %" PRIu32 ", records %" PRIu32 ", ", number, crownhazel_first_line(answer),
+           crownhazel_records(answer));
+    printf("account %.5s %.5s %.3s %.1s %.11s\n", key, key + 5, key + 10, key + 13, key + 14);
 }
 
-/* Asks for entries from the first on. Refusal 25 says that there are no more. */
+/* One test of the journal says how many entries there are; then each is listed without another. */
 static int print_entries(void) {
-    for (uint64_t number = 1;; number++) {
-        uint64_t answer = crownhazel_entry(journal, sizeof journal, number);
-        if (!crownhazel_is_refused(answer)) {
-            print_entry(number, answer);
-        } else if (crownhazel_refusal(answer) == 25) {
-            return DONE;
-        } else {
+    uint64_t used = crownhazel_used(journal, sizeof journal);
+    if (crownhazel_is_refused(used)) {
+        return refused("journal", used);
+    }
+    for (uint32_t number = 1; number <= crownhazel_entries_used(used); number++) {
+        uint8_t row[CROWNHAZEL_ROW];
+        uint64_t answer = crownhazel_listed(journal, sizeof journal, number, row, sizeof row);
+        if (crownhazel_is_refused(answer)) {
             return refused("entry", answer);
         }
+        print_entry(number, answer, row);
     }
+    return DONE;
 }
 
 /* The second delivery stores nothing: send it twice, store it once. */
