@@ -133,14 +133,9 @@ fn no_such_entries(questions: &[(u64, u64)]) -> Vec<u8> {
     bytes
 }
 
-/// A journal of two lines: pokes that touch are one, the sound test and the newest are left out.
-/// Questions are put in after the entry and after the opening; the delivery changes nothing. A
-/// table of dots looks full, with bodies far out.
-#[test]
-fn a_series_by_hand_is_read_back() {
-    let path = path("by-hand.series");
+/// A journal of that length, changed, asked, opened, and a file that is none.
+fn series_by_hand(length: usize) -> Series {
     let mut series = Series::new("hand");
-    let length = TABLE + 240;
     series.perform(Operation::Journal { length });
     series.poke(7, b"ab");
     series.perform(Operation::Poke {
@@ -161,8 +156,18 @@ fn a_series_by_hand_is_read_back() {
     });
     let file = b"x";
     series.perform(Operation::Deliver { line_end: 2, file });
+    series.end()
+}
+
+/// A journal of two lines: pokes that touch are one, the sound test and the newest are left out.
+/// Questions are put in after the entry and after the opening; the delivery changes nothing. A
+/// table of dots looks full, with bodies far out.
+#[test]
+fn a_series_by_hand_is_read_back() {
+    let path = path("by-hand.series");
+    let length = TABLE + 240;
     let mut cases = Cases::create(&path, SERIES, 10, 1).unwrap();
-    add_series(&mut cases, &series.end()).unwrap();
+    add_series(&mut cases, &series_by_hand(length)).unwrap();
     cases.finish().unwrap();
     let mut dots = vec![b'.'; length];
     dots[7..10].copy_from_slice(b"abc");
