@@ -136,7 +136,7 @@ fn is_held(list: &[Held], new: &Held) -> bool {
 
 /// 22, then 23, then 24, for a statement that is not held.
 fn may_be_stored(list: &[Held], new: &Held, lines: usize) -> Result<(), u32> {
-    if last_of(list, &new.key).is_some_and(|last| !new.follows(last)) {
+    if last_of(list, &new.key).map_or(false, |last| !new.follows(last)) {
         return Err(DOES_NOT_FOLLOW);
     }
     if list.len() == ENTRIES {

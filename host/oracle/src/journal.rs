@@ -34,10 +34,10 @@ impl Held {
     /// Reads records without line ends. Nothing unless they are accepted as just one statement.
     pub fn read(records: &[u8]) -> Option<Held> {
         let statements = statements(0, records).ok()?;
-        let [statement] = &statements[..] else {
-            return None;
+        let head = match &statements[..] {
+            [statement] => statement.head,
+            _ => return None,
         };
-        let head = statement.head;
         Some(Held {
             records: records.to_vec(),
             key: key_bytes(records),
@@ -216,7 +216,7 @@ fn all_different(list: &[Held]) -> bool {
 fn all_chained(list: &[Held]) -> bool {
     list.iter().enumerate().all(|(index, statement)| {
         let last = last_of(&list[..index], &statement.key);
-        last.is_none_or(|last| statement.follows(last))
+        last.map_or(true, |last| statement.follows(last))
     })
 }
 

@@ -12,6 +12,7 @@ pub mod check;
 pub mod contents;
 pub mod damage;
 pub mod delivery;
+pub mod failure;
 pub mod hostile;
 pub mod hostile_entries;
 pub mod hostile_series;

@@ -1,11 +1,13 @@
 //! The command over the check, the readers, the journal and the generators.
 
-use std::io::{self, Error, Read, Write};
+use std::io::{self, Read, Write};
 use std::path::Path;
 use std::process::ExitCode;
+use std::sync::atomic::{AtomicU64, Ordering};
 use std::time::Instant;
 
 use oracle::check::check;
+use oracle::failure::failure;
 use oracle::listing::listing;
 use oracle::listing_cases::listings;
 use oracle::read::{complement, head, movement, place};
@@ -99,14 +101,14 @@ fn run_series(arguments: &[&str]) -> io::Result<()> {
     match arguments {
         ["series", file] => {
             let series = std::fs::read(file)?;
-            print_lines(&series::run(&series).map_err(Error::other)?)
+            print_lines(&series::run(&series).map_err(failure)?)
         }
         ["series-kept", seed, count, directory] => {
             let count = number(count)? as usize;
             print_lines(&kept_series(number(seed)?, count, Path::new(directory))?)
         }
         ["series-big", directory] => print_lines(&big_series(Path::new(directory))?),
-        _ => Err(Error::other(USAGE)),
+        _ => Err(failure(USAGE)),
     }
 }
 
@@ -137,7 +139,7 @@ fn run_reader(arguments: &[&str]) -> io::Result<()> {
             let file = std::fs::read(file)?;
             print_lines(&readings(number(line_end)?, &file))
         }
-        _ => Err(Error::other(USAGE)),
+        _ => Err(failure(USAGE)),
     }
 }
 
@@ -150,7 +152,7 @@ fn print_listing() -> io::Result<()> {
 
 fn number(text: &str) -> io::Result<u64> {
     text.parse()
-        .map_err(|_| Error::other(format!("not a number: {text}")))
+        .map_err(|_| failure(format!("not a number: {text}")))
 }
 
 fn print_lines(lines: &[String]) -> io::Result<()> {
@@ -177,13 +179,15 @@ fn time(file: &str, line_end: u64, times: u64) -> io::Result<String> {
     let bytes = std::fs::read(file)?;
     let records = bytes.len() as u64 / (120 + line_end.min(2));
     if records == 0 || times == 0 {
-        return Err(Error::other("nothing to time"));
+        return Err(failure("nothing to time"));
     }
     let mut best = f64::INFINITY;
     let mut answer = check(line_end, &bytes);
+    // Loaded anew in each turn, so that the compiler leaves none out.
+    let line_end = AtomicU64::new(line_end);
     for _ in 0..times {
         let start = Instant::now();
-        answer = std::hint::black_box(check(line_end, std::hint::black_box(&bytes)));
+        answer = check(line_end.load(Ordering::SeqCst), &bytes);
         best = best.min(start.elapsed().as_nanos() as f64);
     }
     let by_record = best / records as f64;

@@ -139,11 +139,17 @@ fn numbered<T>(items: &[T], wanted: u64, refusal: u32) -> Result<&T, Refusal> {
 fn read_statement<'a>(place: Place, lines: &[&'a [u8]]) -> Statement<'a> {
     let last = lines.len() - 1;
     // Each movement is a 04 with the 05 after it.
-    let movements = lines[1..last].chunk_by(|_, next| record_code(next) == b"05");
+    let starts = (1..last).filter(|&at| record_code(lines[at]) != b"05");
+    let end = |start: usize| {
+        let later = (start + 1..last).find(|&at| record_code(lines[at]) != b"05");
+        later.unwrap_or(last)
+    };
     Statement {
         place,
         head: read_head(lines[0], lines[last]),
-        movements: movements.map(read_movement).collect(),
+        movements: starts
+            .map(|start| read_movement(&lines[start..end(start)]))
+            .collect(),
     }
 }
 

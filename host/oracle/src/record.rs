@@ -89,7 +89,7 @@ pub fn read_date(bytes: &[u8]) -> Option<u64> {
     }
     let years = (year + 20) % 100;
     let before: u64 = (0..month - 1).map(|m| month_length(m, years % 4)).sum();
-    Some(365 * years + years.div_ceil(4) + before + day - 1)
+    Some(365 * years + (years + 3) / 4 + before + day - 1)
 }
 
 fn month_length(month: usize, year_in_four: u64) -> u64 {

@@ -1,13 +1,14 @@
 //! A series of operations on a journal, recorded with the answer of each call.
 
 use std::collections::BTreeSet;
-use std::io::{self, Error};
+use std::io;
 
 use crate::answers::Numbers;
 use crate::case_file::put_bytes;
 use crate::check::RECORD;
 use crate::contents::{listed, ROW};
 use crate::delivery::deliver;
+use crate::failure::failure;
 use crate::journal::{entry, open, used, Used, ENTRIES, ENTRY, TABLE};
 use crate::read::Refusal;
 use crate::series::{operations, Operation};
@@ -43,7 +44,7 @@ impl Series {
     /// A series that stands in its text form.
     pub fn of(name: &str, text: &[u8]) -> io::Result<Series> {
         let mut series = Series::new(name);
-        for operation in operations(text).map_err(Error::other)? {
+        for operation in operations(text).map_err(failure)? {
             series.perform(operation);
         }
         Ok(series.end())
@@ -95,7 +96,7 @@ impl Series {
         self.number(line_end);
         put_bytes(&mut self.bytes, file);
         let answer = deliver(&mut self.journal, line_end, file);
-        if answer.is_ok_and(|done| done.stored > 0) {
+        if answer.map_or(false, |done| done.stored > 0) {
             self.asked = false;
         }
         self.answer_on_journal(answer.map(|done| [done.stored, done.held, 0]));

@@ -89,8 +89,9 @@ pub fn operations(series: &[u8]) -> Result<Vec<Operation<'_>>, String> {
 fn first_operation(bytes: &[u8]) -> Result<(Operation<'_>, usize), String> {
     let header = bytes.get(..HEADER).ok_or("header cut short")?;
     let form = header[1] == b' ' && header[21] == b' ' && header[30] == b'\n';
-    let (Some(a), Some(b), true) = (number(&header[2..21]), number(&header[22..30]), form) else {
-        return Err("header malformed".to_string());
+    let (a, b) = match (number(&header[2..21]), number(&header[22..30]), form) {
+        (Some(a), Some(b), true) => (a, b),
+        _ => return Err("header malformed".to_string()),
     };
     let operation = match header[0] {
         b'J' if a <= MOST_BYTES => Operation::Journal { length: a as usize },

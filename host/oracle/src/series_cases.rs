@@ -19,9 +19,10 @@ pub use scenes::{scenes, Damage, Scene};
 pub use script::{Script, SeriesCase};
 
 use std::collections::BTreeSet;
-use std::io::{self, Error};
+use std::io;
 use std::path::Path;
 
+use crate::failure::failure;
 use crate::rng::Rng;
 use crate::series::run;
 use script::Make;
@@ -102,7 +103,7 @@ fn write_series(directory: &Path, cases: &[SeriesCase]) -> io::Result<Vec<String
         let file_name = format!("{number:03}.series");
         std::fs::write(directory.join(&file_name), &case.bytes)?;
         eprintln!("{file_name}\t{}\t{}", case.bytes.len(), case.name);
-        lines.append(&mut run(&case.bytes).map_err(Error::other)?);
+        lines.append(&mut run(&case.bytes).map_err(failure)?);
     }
     Ok(lines)
 }

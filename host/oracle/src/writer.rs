@@ -26,10 +26,10 @@ fn refused<T>(number: u32) -> Result<T, Refusal> {
 /// Fills the first rows of a table with the movements of statement k. Gives their number.
 pub fn movements(line_end: u64, file: &[u8], k: u64, table: &mut [Row]) -> Result<u64, Refusal> {
     let statements = statements(line_end, file)?;
-    let Some((_, statement)) = (1..).zip(&statements).find(|&(number, _)| number == k) else {
-        return refused(NO_STATEMENT);
+    let movements = match (1..).zip(&statements).find(|&(number, _)| number == k) {
+        Some((_, statement)) => &statement.movements,
+        None => return refused(NO_STATEMENT),
     };
-    let movements = &statement.movements;
     if table.len() < movements.len() {
         return refused(TABLE_TOO_SHORT);
     }

@@ -69,7 +69,7 @@ fn find_first_movement(
         code(line) == b"04"
             && index > 0
             && code_at(index - 1) == Some(b"01")
-            && code_at(index + 1).is_some_and(&next)
+            && code_at(index + 1).map_or(false, &next)
     })
 }
 

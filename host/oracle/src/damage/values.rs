@@ -164,7 +164,7 @@ fn add_complement_parts(list: &mut Vec<Recipe>) {
 }
 
 fn movement_with_complement(rng: &mut Rng, draft: &Draft) -> Option<usize> {
-    let followed = |index: usize| draft.lines.get(index + 1).is_some_and(|l| code(l) == b"05");
+    let followed = |index: usize| draft.lines.get(index + 1).map(|l| code(l)) == Some(b"05");
     find_where(rng, draft, |index, line| {
         code(line) == b"04" && followed(index)
     })

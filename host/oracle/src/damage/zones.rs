@@ -165,10 +165,7 @@ fn hit(
     if zone.3 != Class::Free {
         return Some(Claim::Refused(8, index + 1));
     }
-    let complement_follows = draft
-        .lines
-        .get(index + 1)
-        .is_some_and(|line| code(line) == b"05");
+    let complement_follows = draft.lines.get(index + 1).map(|line| code(line)) == Some(b"05");
     match (zone.0, kind) {
         ("internal", "04") if changed && complement_follows => Some(Claim::Refused(10, index + 2)),
         ("internal", "05") if changed => Some(Claim::Refused(10, index + 1)),

@@ -81,7 +81,7 @@ impl Account {
     /// A statement that begins with another balance, or on another day, than it should.
     pub fn astray(&self, rng: &mut Rng, days: i64, money: i64) -> Statement {
         let from = Balance {
-            day: self.last.day.saturating_add_signed(days),
+            day: (self.last.day as i64 + days).max(0) as u64,
             value: self.last.value + toward_zero(self.last.value, money),
         };
         let mut other = self.clone();

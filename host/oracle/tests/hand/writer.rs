@@ -315,7 +315,7 @@ fn refusals_of_the_table() {
         let ask = |line_end, file: &[u8], k| {
             let mut table = lent(rows);
             let answer = movements(line_end, file, k, &mut table);
-            assert!(answer.is_ok_and(|rows| rows > 0) || table == lent(rows));
+            assert!(answer.map_or(false, |rows| rows > 0) || table == lent(rows));
             answer
         };
         for k in [0, 3, 1 << 32, u64::MAX] {
