@@ -30,7 +30,7 @@ part-put-row-end : tie.Need-part-put-row-end
 part-put-row-end c = search needs
 
 sub-put-row-2 : tie.Need-sub-put-row-2
-sub-put-row-2 c = some-entry (c .before .before .before .before .before .before .before .before .args .journal .now) (c .before .before .before .before .before .before .before .before .args .entry) (c .before .before .before .before .before .before .before .before .args .row .now) (sym (c .before .before .before .first .given .1) ∙ c .before .before .before .before .before .listed-place .ensures .answer)
+sub-put-row-2 c = omega (arith, some-entry (c .before .before .before .before .before .before .before .before .args .journal .now) (c .before .before .before .before .before .before .before .before .args .entry) (c .before .before .before .before .before .before .before .before .args .row .now) (sym (c .before .before .before .first .given .1) ∙ c .before .before .before .before .before .listed-place .ensures .answer))
 
 put-row-requires : tie.Need-put-row-requires
 put-row-requires c κs = search needs
