@@ -13,9 +13,16 @@
 
 enum { MOST_JOURNAL = CROWNHAZEL_CONTENTS + CROWNHAZEL_RECORD * CROWNHAZEL_MOST_LINES };
 
+/* Room for the whole file at once, where its length is one of a journal: one that grows is copied as it does. */
+static bool make_room_for(int descriptor, struct bytes *journal) {
+    struct stat status;
+    return fstat(descriptor, &status) == 0 &&
+           (status.st_size > MOST_JOURNAL || make_room(journal, (size_t)status.st_size + 1));
+}
+
 static int read_from(struct place *place, struct bytes *journal) {
     *journal = (struct bytes){0};
-    if (read_up_to(place->file, MOST_JOURNAL + 1, journal)) {
+    if (make_room_for(place->file, journal) && read_up_to(place->file, MOST_JOURNAL + 1, journal)) {
         return STATUS_DONE;
     }
     let_go(journal);
