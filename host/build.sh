@@ -22,7 +22,7 @@ command -v "$cc" >/dev/null || give_up "the compiler $cc is missing; Debian's pa
 
 need_archive() { # CRATE: its archive, made anew where there is none or a proved source is younger
     local made=target/staticlib/lib$1.a
-    if [ ! -f "$made" ] || [ -n "$(find crates crates.txt -type f -newer "$made" -print -quit)" ]; then
+    if [ ! -f "$made" ] || [ -n "$(find crates crates.txt -name must-fail -prune -o -newer "$made" -print -quit)" ]; then
         rt staticlib "$1" && touch "$made" || give_up "there is no $made"
     fi
 }

@@ -30,7 +30,7 @@ static const struct option_form options[] = {
     {OPTION_MODE, "mode", "OCTAL", "the new journal's rights, as 640; without it they are 600"},
     {OPTION_WAIT, "wait", "SECONDS",
      "gives up after so many seconds where another command\n"
-     "holds the journal; without it, waits as long as it takes"},
+     "holds the journal, for each file; without it, waits as\nlong as it takes"},
     {OPTION_HELP, "help", NULL, "prints this and does nothing else; -h is the same"},
 };
 
@@ -211,13 +211,10 @@ static void list_options(const struct subcommand *subcommand, struct option list
     listed[count] = (struct option){0};
 }
 
-/* getopt_long names a letter that is no option; a whole word is the one that it has just passed. */
-static void no_option(const struct subcommand *subcommand, const char *word) {
-    if (optopt >= ' ') {
-        complain(subcommand->name, "it has no option -%c", optopt);
-    } else {
-        complain(subcommand->name, "it has no option %s", word);
-    }
+/* The word that getopt_long has stopped at: in the middle of one with several letters, or just behind it. */
+static const char *word_at_fault(int count, char **words) {
+    bool inside = optind < count && words[optind][0] == '-' && optopt != 0 && strchr(words[optind], optopt) != NULL;
+    return words[inside ? optind : optind - 1];
 }
 
 static bool take_options(int count, char **words, struct arguments *arguments) {
@@ -225,10 +222,11 @@ static bool take_options(int count, char **words, struct arguments *arguments) {
     struct option listed[OPTIONS + 1];
     int found;
     list_options(subcommand, listed);
+    unsetenv("POSIXLY_CORRECT"); /* options stand behind operands too */
     opterr = 0;
     while ((found = getopt_long(count, words, ":h", listed, NULL)) != -1) {
         if (found == '?') {
-            no_option(subcommand, words[optind - 1]);
+            complain(subcommand->name, "it has no option %s", word_at_fault(count, words));
             return false;
         }
         if (found == ':') {

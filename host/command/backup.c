@@ -14,7 +14,7 @@ static int copy_to(const char *name, const struct bytes *journal, size_t entries
     }
     status = write_copy(&copy, journal);
     leave_place(&copy);
-    return status == STATUS_DONE ? answer(name, "entries %zu, checksum %s.sha256", entries, name) : status;
+    return status == STATUS_DONE ? answer(name, "entries %zu, checksum %s" CHECKSUM_ENDING, entries, name) : status;
 }
 
 /* No lock: the file is read as a whole, and a delivery puts another one in its place. */

@@ -2,6 +2,7 @@
 
 #include <errno.h>
 #include <stdlib.h>
+#include <string.h>
 #include <unistd.h>
 
 enum { FIRST_ROOM = 65536 };
@@ -13,6 +14,15 @@ bool make_room(struct bytes *bytes, size_t room) {
     }
     bytes->first = first;
     bytes->room = room;
+    return true;
+}
+
+bool append(struct bytes *bytes, const void *from, size_t length) {
+    if (!make_room(bytes, bytes->length + length)) {
+        return false;
+    }
+    memcpy(bytes->first + bytes->length, from, length);
+    bytes->length += length;
     return true;
 }
 

@@ -18,6 +18,9 @@ struct bytes {
 /* Makes room for so many bytes. */
 bool make_room(struct bytes *bytes, size_t room);
 
+/* Puts bytes behind the last. */
+bool append(struct bytes *bytes, const void *from, size_t length);
+
 /* Reads to the end, or until so many bytes are there. */
 bool read_up_to(int descriptor, size_t most, struct bytes *bytes);
 

@@ -44,7 +44,7 @@ size_t accounts_in(const struct contents *contents);
 size_t lacking(const struct bytes *journal, const struct contents *contents, const struct bytes *other,
                const struct contents *other_contents);
 
-/* How many body lines a file of such a length has; 0 where it is none of a journal. */
+/* How many whole body lines stand behind the table; 0 where there is not even that. */
 size_t lines_of(const struct bytes *journal);
 
 #endif

@@ -16,9 +16,10 @@
 
 enum { MOST_CHECKSUM_FILE = 8192 };
 
-char *checksum_path(const struct place *copy) {
+/* NULL where there is no memory. */
+static char *checksum_path(const struct place *copy) {
     char *path = NULL;
-    return asprintf(&path, "%s.sha256", copy->path) < 0 ? NULL : path;
+    return asprintf(&path, "%s" CHECKSUM_ENDING, copy->path) < 0 ? NULL : path;
 }
 
 static int exists_already(const char *name, const char *path) {
@@ -85,8 +86,8 @@ static bool compose_line(const char *digits, const char *name, struct bytes *lin
     return true;
 }
 
-/* The copy first: a copy without its checksum is not taken for one that is whole. Where the checksum cannot be written
- * the copy goes too, so that the same call can be made again. */
+/* The copy first: a copy without its checksum is not taken for one that is whole. Where not all of it is sure to be on
+ * the disk both go again, so that the same call can be made again. */
 static int write_both(const struct place *copy, const struct bytes *journal, const char *path,
                       const struct bytes *line) {
     int status = write_new(copy, copy->path, journal);
@@ -94,14 +95,19 @@ static int write_both(const struct place *copy, const struct bytes *journal, con
         return status;
     }
     status = write_new(copy, path, line);
+    if (status == STATUS_DONE) {
+        status = sync_folder(copy);
+        if (status != STATUS_DONE) {
+            unlink(path);
+        }
+    }
     if (status != STATUS_DONE) {
         unlink(copy->path);
-        return status;
     }
-    return sync_folder(copy->name, copy->folder);
+    return status;
 }
 
-int write_copy(const struct place *copy, const struct bytes *journal) {
+int write_copy(struct place *copy, const struct bytes *journal) {
     char digits[CHECKSUM_DIGITS + 1];
     struct bytes line = {0};
     char *path = checksum_path(copy);
@@ -114,7 +120,8 @@ int write_copy(const struct place *copy, const struct bytes *journal) {
     } else if (access(path, F_OK) == 0) {
         status = exists_already(copy->name, path);
     } else {
-        status = write_both(copy, journal, path, &line);
+        status = open_folder(copy);
+        status = status == STATUS_DONE ? write_both(copy, journal, path, &line) : status;
     }
     let_go(&line);
     free(path);
@@ -126,27 +133,43 @@ static bool read_checksum(const char *path, struct bytes *text) {
     return descriptor >= 0 && close_after(read_up_to(descriptor, MOST_CHECKSUM_FILE, text), descriptor);
 }
 
-/* Whether the first line of a checksum's file begins with these digits. */
-static bool is_checksum(const struct bytes *text, const char *digits) {
+/* The digits that the first line of a checksum's file begins with, behind a backslash where the name is spelt; NULL
+ * where it does not begin so. */
+static const char *digits_in(const struct bytes *text) {
     const char *first = (const char *)text->first;
     size_t before = text->length > 0 && first[0] == '\\' ? 1 : 0;
-    return text->length > before + CHECKSUM_DIGITS && strncasecmp(first + before, digits, CHECKSUM_DIGITS) == 0 &&
-           first[before + CHECKSUM_DIGITS] == ' ';
+    if (text->length <= before + CHECKSUM_DIGITS || first[before + CHECKSUM_DIGITS] != ' ' ||
+        strspn(first + before, "0123456789abcdefABCDEF") != CHECKSUM_DIGITS) {
+        return NULL;
+    }
+    return first + before;
+}
+
+static int compare(const struct place *copy, const char *path, const struct bytes *text, const char *digits) {
+    const char *wanted = digits_in(text);
+    if (wanted == NULL) {
+        complain(copy->name, "its checksum %s is none as sha256sum writes it; without it no copy is taken", path);
+        return STATUS_UNSOUND;
+    }
+    if (strncasecmp(wanted, digits, CHECKSUM_DIGITS) != 0) {
+        complain(copy->name, "it does not match its checksum %s: one of them was altered; take another copy", path);
+        return STATUS_UNSOUND;
+    }
+    return STATUS_DONE;
 }
 
 int match_checksum(const struct place *copy, const struct bytes *journal) {
     char digits[CHECKSUM_DIGITS + 1];
     struct bytes text = {0};
-    int status = STATUS_DONE;
+    int status;
     char *path = checksum_path(copy);
     checksum_of(journal, digits);
     if (path == NULL || !read_checksum(path, &text)) {
         complain(copy->name, "its checksum %s cannot be read: %s; without it no copy is taken",
                  path == NULL ? "" : path, strerror(errno));
         status = STATUS_SYSTEM;
-    } else if (!is_checksum(&text, digits)) {
-        complain(copy->name, "it does not match its checksum %s: the copy was altered; take another one", path);
-        status = STATUS_UNSOUND;
+    } else {
+        status = compare(copy, path, &text, digits);
     }
     let_go(&text);
     free(path);

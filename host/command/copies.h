@@ -5,13 +5,13 @@
 #include "bytes.h"
 #include "place.h"
 
-/* The path of a copy's checksum: COPY.sha256. NULL where there is no memory. */
-char *checksum_path(const struct place *copy);
+/* How the name of a copy's checksum ends, after the copy's own. */
+#define CHECKSUM_ENDING ".sha256"
 
 /* These answer a status, with a message where it is not STATUS_DONE. */
 
 /* Writes a copy and its checksum where there is neither, and brings both to the disk. */
-int write_copy(const struct place *copy, const struct bytes *journal);
+int write_copy(struct place *copy, const struct bytes *journal);
 
 /* Holds a copy's bytes to its checksum. */
 int match_checksum(const struct place *copy, const struct bytes *journal);

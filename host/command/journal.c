@@ -13,55 +13,59 @@
 
 enum { MOST_JOURNAL = CROWNHAZEL_CONTENTS + CROWNHAZEL_RECORD * CROWNHAZEL_MOST_LINES };
 
-/* Room for the whole file at once, where its length is one of a journal: one that grows is copied as it does. */
-static bool make_room_for(int descriptor, struct bytes *journal) {
-    struct stat status;
-    return fstat(descriptor, &status) == 0 &&
-           (status.st_size > MOST_JOURNAL || make_room(journal, (size_t)status.st_size + 1));
-}
+/* What is left where a new journal could not be written. */
+static const char as_it_was[] = "the journal is as it was";
+static const char none_yet[] = "there is no journal yet";
 
+/* Its status is taken before its bytes, so that a change of them shows. Room for all of it is made at once, where its
+ * length is one of a journal. */
 static int read_from(struct place *place, struct bytes *journal) {
     *journal = (struct bytes){0};
-    if (make_room_for(place->file, journal) && read_up_to(place->file, MOST_JOURNAL + 1, journal)) {
+    if (fstat(place->file, &place->status) == 0 &&
+        (place->status.st_size > MOST_JOURNAL || make_room(journal, (size_t)place->status.st_size + 1)) &&
+        read_up_to(place->file, MOST_JOURNAL + 1, journal)) {
         return STATUS_DONE;
     }
     let_go(journal);
     return failed(place->name, "the journal cannot be read");
 }
 
-/* Without waiting: a pipe that has come in the journal's place would not open. */
+/* Without waiting, not for a pipe either that has come in the journal's place. */
 int read_journal(struct place *place, struct bytes *journal) {
+    struct stat status;
     place->file = open(place->path, O_RDONLY | O_CLOEXEC | O_NONBLOCK | O_NOFOLLOW);
-    return place->file >= 0 ? read_from(place, journal) : failed(place->name, "the journal cannot be read");
+    if (place->file < 0 || fstat(place->file, &status) != 0) {
+        return failed(place->name, "the journal cannot be read");
+    }
+    return S_ISREG(status.st_mode) ? read_from(place, journal) : no_file(place);
 }
 
 /* Whoever may use the journal may use its lock. That only the lock's owner can set it right is no hindrance. */
-static void share_lock(const struct place *place) {
-    struct rights journal, lock;
-    if (read_rights(place->file, &journal) && read_rights(place->lock, &lock) && !same_rights(&journal, &lock)) {
-        give_rights(place->lock, &journal);
+static void share_lock(const struct place *place, int journal) {
+    struct rights rights, lock;
+    if (read_rights(journal, &rights) && read_rights(place->lock, &lock) && !same_rights(&rights, &lock)) {
+        give_rights(place->lock, &rights);
     }
 }
 
 int hold_journal(struct place *place, const struct patience *patience, struct bytes *journal) {
-    int status = take_name_lock(place, patience);
+    int status = open_folder(place);
+    if (status == STATUS_DONE) {
+        status = take_name_lock(place, patience);
+    }
     if (status == STATUS_DONE) {
         status = take_file_lock(place, patience);
     }
     if (status != STATUS_DONE) {
         return status;
     }
-    share_lock(place);
+    share_lock(place, place->file);
     return read_from(place, journal);
 }
 
-int hold_name(struct place *place, const struct patience *patience, mode_t mode) {
-    int status = take_name_lock(place, patience);
-    if (status == STATUS_DONE) {
-        /* A lock that another user made stays as it is. */
-        give_mode(place->lock, mode);
-    }
-    return status;
+int hold_name(struct place *place, const struct patience *patience) {
+    int status = open_folder(place);
+    return status == STATUS_DONE ? take_name_lock(place, patience) : status;
 }
 
 static bool sync_whole(int descriptor) {
@@ -76,24 +80,34 @@ bool write_to_disk(int descriptor, const struct bytes *bytes) {
     return write_whole(descriptor, bytes->first, bytes->length) && sync_whole(descriptor);
 }
 
-/* The rights that were asked for or, for NULL, those of the journal that was read. */
+/* Where there was a journal its rights, with the mode that was asked for, if one was. */
 static bool give_either(int descriptor, const struct place *place, const mode_t *mode) {
-    struct rights old;
-    if (mode != NULL) {
+    struct rights rights;
+    if (place->file < 0) {
         return give_mode(descriptor, *mode);
     }
-    return read_rights(place->file, &old) && give_rights(descriptor, &old);
-}
-
-/* What a run that was killed has left is removed and never written to: it can be a second name of the journal itself,
- * left by an opening. */
-static bool write_fresh(const struct place *place, const struct bytes *journal, const mode_t *mode) {
-    if (unlink(place->fresh_path) != 0 && errno != ENOENT) {
+    if (!read_rights(place->file, &rights)) {
         return false;
     }
-    int descriptor = open(place->fresh_path, O_WRONLY | O_CREAT | O_EXCL | O_CLOEXEC, RIGHTS_PRIVATE);
-    return descriptor >= 0 &&
-           close_after(give_either(descriptor, place, mode) && write_to_disk(descriptor, journal), descriptor);
+    if (mode != NULL) {
+        rights.mode = *mode;
+        rights.length = 0;
+    }
+    return give_rights(descriptor, &rights);
+}
+
+/* The new journal, on the disk under its temporary name; negative with errno where it fails. What a run that was killed
+ * has left is removed and never written to: it can be a second name of the journal itself, left by an opening. */
+static int write_fresh(const struct place *place, const struct bytes *journal, const mode_t *mode) {
+    if (unlink(place->fresh_path) != 0 && errno != ENOENT) {
+        return -1;
+    }
+    int fresh = open(place->fresh_path, O_RDWR | O_CREAT | O_EXCL | O_CLOEXEC, RIGHTS_PRIVATE);
+    if (fresh < 0 || (give_either(fresh, place, mode) && write_to_disk(fresh, journal))) {
+        return fresh;
+    }
+    close_after(false, fresh);
+    return -1;
 }
 
 /* Where that fails, the next run does it. errno stays. */
@@ -109,12 +123,32 @@ static int not_written(const struct place *place, const char *left) {
     return STATUS_SYSTEM;
 }
 
-int sync_folder(const char *name, const char *folder) {
-    int descriptor = open(folder, O_RDONLY | O_DIRECTORY | O_CLOEXEC);
-    if (descriptor >= 0 && close_after(sync_whole(descriptor), descriptor)) {
+int sync_folder(const struct place *place) {
+    if (sync_whole(place->around)) {
         return STATUS_DONE;
     }
-    complain(name, "the folder %s cannot be brought to the disk: %s; try again", folder, strerror(errno));
+    complain(place->name, "the folder %s cannot be brought to the disk: %s; try again", place->folder, strerror(errno));
+    return STATUS_SYSTEM;
+}
+
+/* Whether the journal is still the one that was read: the same file, and not written to since. False with errno 0 where
+ * it is not, and another errno where that cannot be told. */
+static bool is_still_there(const struct place *place) {
+    struct stat now;
+    const struct stat *then = &place->status;
+    if (!names_file(place->path, place->file) || fstat(place->file, &now) != 0) {
+        return false;
+    }
+    errno = 0;
+    return now.st_size == then->st_size && now.st_mtim.tv_sec == then->st_mtim.tv_sec &&
+           now.st_mtim.tv_nsec == then->st_mtim.tv_nsec;
+}
+
+/* Another program has written to the journal, put a file in its place, or taken it away. What it did stays. */
+static int not_the_same(const struct place *place) {
+    complain(place->name,
+             "another program has replaced or changed the journal meanwhile; what it did stays, and nothing "
+             "else was changed: try again");
     return STATUS_SYSTEM;
 }
 
@@ -123,45 +157,75 @@ int settle_journal(const struct place *place) {
         complain(place->name, "the journal cannot be brought to the disk: %s; try again", strerror(errno));
         return STATUS_SYSTEM;
     }
-    return sync_folder(place->name, place->folder);
+    int status = sync_folder(place);
+    if (status != STATUS_DONE || is_still_there(place)) {
+        return status;
+    }
+    return errno == 0 ? not_the_same(place) : failed(place->name, "the journal cannot be looked at");
 }
 
-/* Another program has put a file in the journal's place, or taken it away. What it did stays. */
-static int not_the_same(const struct place *place) {
-    remove_fresh(place);
-    complain(place->name, "another program has replaced the journal meanwhile; nothing was changed: try again");
-    return STATUS_SYSTEM;
+/* Puts the new journal in the old one's place. */
+static int put_fresh(const struct place *place, int fresh) {
+    if (!is_still_there(place)) {
+        if (errno != 0) {
+            return not_written(place, as_it_was);
+        }
+        remove_fresh(place);
+        return not_the_same(place);
+    }
+    if (rename(place->fresh_path, place->path) != 0) {
+        return not_written(place, as_it_was);
+    }
+    share_lock(place, fresh);
+    return sync_folder(place);
 }
 
 /* A rename does not ask for the right to write the old file, so it is asked for here: a journal can be closed by its
  * mode. */
 int replace_journal(const struct place *place, const struct bytes *journal, const mode_t *mode) {
-    const char *as_it_was = "the journal is as it was";
     if (access(place->path, W_OK) != 0) {
         return failed(place->name, "the journal may not be changed");
     }
-    if (!write_fresh(place, journal, mode)) {
+    int fresh = write_fresh(place, journal, mode);
+    if (fresh < 0) {
         return not_written(place, as_it_was);
     }
-    if (!names_file(place->path, place->file)) {
-        return errno == 0 ? not_the_same(place) : not_written(place, as_it_was);
-    }
-    if (rename(place->fresh_path, place->path) != 0) {
-        return not_written(place, as_it_was);
-    }
-    return sync_folder(place->name, place->folder);
+    int status = put_fresh(place, fresh);
+    close(fresh); /* all of it is on the disk */
+    return status;
 }
 
-/* By a link, which fails where the name is taken: a file that appears in between is not overwritten. */
-int create_journal(const struct place *place, const struct bytes *journal, mode_t mode) {
-    bool written = write_fresh(place, journal, &mode);
-    if (written && link(place->fresh_path, place->path) == 0) {
-        remove_fresh(place);
-        return sync_folder(place->name, place->folder);
+/* By a link, which fails where the name is taken: a file that appears in between is not overwritten. Where it is not
+ * sure to be on the disk it goes again, so that the same call can be made again. */
+static int link_fresh(const struct place *place, int fresh) {
+    if (!names_file(place->fresh_path, fresh)) {
+        return errno == 0 ? not_the_same(place) : not_written(place, none_yet);
     }
-    if (written && errno == EEXIST) {
+    if (link(place->fresh_path, place->path) != 0) {
+        if (errno != EEXIST) {
+            return not_written(place, none_yet);
+        }
         remove_fresh(place);
         return STATUS_USAGE;
     }
-    return not_written(place, "there is no journal yet");
+    if (!names_file(place->path, fresh) && errno == 0) {
+        return not_the_same(place);
+    }
+    remove_fresh(place);
+    share_lock(place, fresh);
+    int status = sync_folder(place);
+    if (status != STATUS_DONE) {
+        unlink(place->path);
+    }
+    return status;
+}
+
+int create_journal(const struct place *place, const struct bytes *journal, mode_t mode) {
+    int fresh = write_fresh(place, journal, &mode);
+    if (fresh < 0) {
+        return not_written(place, none_yet);
+    }
+    int status = link_fresh(place, fresh);
+    close(fresh);
+    return status;
 }

@@ -17,12 +17,12 @@ int read_journal(struct place *place, struct bytes *journal);
 /* Takes the locks of a journal that exists, and reads it. Where it fails the place is still to be left. */
 int hold_journal(struct place *place, const struct patience *patience, struct bytes *journal);
 
-/* A journal that does not exist yet: takes JOURNAL.lock, with these rights. */
-int hold_name(struct place *place, const struct patience *patience, mode_t mode);
+/* A journal that does not exist yet: takes JOURNAL.lock. */
+int hold_name(struct place *place, const struct patience *patience);
 
 /* These want the locks. */
 
-/* Puts a new journal in the place of the one that was read, with these rights or, for NULL, the old one's. */
+/* Puts a new journal in the place of the one that was read, with its rights; with this mode where it is not NULL. */
 int replace_journal(const struct place *place, const struct bytes *journal, const mode_t *mode);
 
 /* Puts a new journal where there is none. STATUS_USAGE, without a message, where there is a file by now. */
@@ -36,7 +36,7 @@ int settle_journal(const struct place *place);
 /* Brings bytes to the disk through a descriptor. False with errno where it fails. */
 bool write_to_disk(int descriptor, const struct bytes *bytes);
 
-/* Brings the names in a folder to the disk. */
-int sync_folder(const char *name, const char *folder);
+/* Brings the names in the folder to the disk, which was opened before. */
+int sync_folder(const struct place *place);
 
 #endif

@@ -3,8 +3,10 @@
 
 #include <errno.h>
 #include <fcntl.h>
+#include <signal.h>
 #include <string.h>
 #include <sys/file.h>
+#include <sys/time.h>
 #include <unistd.h>
 
 #include "rights.h"
@@ -18,42 +20,73 @@ struct patience patience_of(const struct arguments *arguments) {
     return patience;
 }
 
-static bool is_over(const struct patience *patience) {
+/* The time that is left, which is no less than nothing. */
+static struct timeval left_of(const struct patience *patience) {
     struct timespec now;
     clock_gettime(CLOCK_MONOTONIC, &now);
-    return now.tv_sec > patience->until.tv_sec ||
-           (now.tv_sec == patience->until.tv_sec && now.tv_nsec >= patience->until.tv_nsec);
+    long long left = (patience->until.tv_sec - now.tv_sec) * 1000000LL + (patience->until.tv_nsec - now.tv_nsec) / 1000;
+    return left <= 0 ? (struct timeval){0} : (struct timeval){left / 1000000, left % 1000000};
 }
 
-static bool lock_by(int descriptor, int way) {
+static bool is_over(const struct patience *patience) {
+    struct timeval left = left_of(patience);
+    return patience->limited && left.tv_sec == 0 && left.tv_usec == 0;
+}
+
+static void wake(int number) {
+    (void)number;
+}
+
+/* Has a signal end a call that waits when patience is over, and again and again after that: the first can come before
+ * the call begins. */
+static void set_alarm(const struct patience *patience) {
+    struct sigaction action = {.sa_handler = wake};
+    struct itimerval alarm = {.it_value = left_of(patience), .it_interval = {.tv_usec = 50000}};
+    sigset_t alarms;
+    sigemptyset(&alarms);
+    sigaddset(&alarms, SIGALRM);
+    sigaction(SIGALRM, &action, NULL);
+    sigprocmask(SIG_UNBLOCK, &alarms, NULL);
+    alarm.it_value.tv_usec += 1; /* nothing at all would be no alarm */
+    setitimer(ITIMER_REAL, &alarm, NULL);
+}
+
+/* errno stays. */
+static void end_alarm(void) {
+    static const struct itimerval none;
+    int error = errno;
+    setitimer(ITIMER_REAL, &none, NULL);
+    errno = error;
+}
+
+/* Waits in the row with all others: whoever asked again and again would always come last. False with ETIMEDOUT where
+ * patience is over. */
+static bool wait_for(int descriptor, const struct patience *patience) {
     int status;
+    if (patience->limited) {
+        set_alarm(patience);
+    }
     do {
-        status = flock(descriptor, way);
-    } while (status != 0 && errno == EINTR);
+        status = flock(descriptor, LOCK_EX);
+    } while (status != 0 && errno == EINTR && !is_over(patience));
+    end_alarm();
+    if (status != 0 && errno == EINTR) {
+        errno = ETIMEDOUT;
+    }
     return status == 0;
 }
 
-/* False with EWOULDBLOCK where patience is over. */
-static bool wait_for(int descriptor, const struct patience *patience) {
-    static const struct timespec while_waiting = {.tv_nsec = 20000000};
-    while (!lock_by(descriptor, LOCK_EX | LOCK_NB)) {
-        if (errno != EWOULDBLOCK || is_over(patience)) {
-            return false;
-        }
-        nanosleep(&while_waiting, NULL);
-    }
-    return true;
-}
-
 static bool take_lock(int descriptor, const struct patience *patience) {
-    if (lock_by(descriptor, LOCK_EX | LOCK_NB)) {
-        return true;
-    }
-    if (errno != EWOULDBLOCK) {
-        return false;
+    int status;
+    do {
+        status = flock(descriptor, LOCK_EX | LOCK_NB);
+    } while (status != 0 && errno == EINTR);
+    if (status == 0 || errno != EWOULDBLOCK) {
+        return status == 0;
     }
     show_passing("waiting: another command holds the journal");
-    return patience->limited ? wait_for(descriptor, patience) : lock_by(descriptor, LOCK_EX);
+    errno = ETIMEDOUT;
+    return !is_over(patience) && wait_for(descriptor, patience);
 }
 
 bool names_file(const char *path, int descriptor) {
@@ -75,15 +108,28 @@ static int close_with(int error, int descriptor) {
     return -1;
 }
 
+/* Whether this is a regular file, not to say a lock: those are empty and have one name, so that nothing else is ever
+ * taken for one, and given the rights of one. */
+static bool is_right_file(int descriptor, bool lock) {
+    struct stat status;
+    if (fstat(descriptor, &status) != 0) {
+        return false;
+    }
+    bool right = S_ISREG(status.st_mode) && (!lock || (status.st_size == 0 && status.st_nlink <= 1));
+    errno = right ? 0 : EINVAL;
+    return right;
+}
+
 /* Opens and locks the file that a path names: where another file has come there meanwhile, once more. Negative where it
- * fails. A pipe in its place would not open, so nothing waits for one. */
-static int open_locked(const char *path, int flags, const struct patience *patience) {
+ * fails. No opening waits, not for a pipe either. */
+static int open_locked(const char *path, bool lock, const struct patience *patience) {
     for (;;) {
-        int descriptor = open(path, O_RDONLY | O_CLOEXEC | O_NOFOLLOW | O_NONBLOCK | flags, RIGHTS_PRIVATE);
+        int flags = O_RDONLY | O_CLOEXEC | O_NOFOLLOW | O_NONBLOCK | (lock ? O_CREAT : 0);
+        int descriptor = open(path, flags, RIGHTS_PRIVATE);
         if (descriptor < 0) {
             return -1;
         }
-        if (!take_lock(descriptor, patience)) {
+        if (!is_right_file(descriptor, lock) || !take_lock(descriptor, patience)) {
             return close_with(errno, descriptor);
         }
         if (names_file(path, descriptor)) {
@@ -97,7 +143,7 @@ static int open_locked(const char *path, int flags, const struct patience *patie
 }
 
 static int not_locked(const struct place *place, const struct patience *patience, const char *what, const char *path) {
-    if (errno == EWOULDBLOCK) {
+    if (errno == ETIMEDOUT) {
         complain(place->name, "another command holds the journal: %u seconds were waited; try again",
                  patience->seconds);
     } else {
@@ -106,13 +152,27 @@ static int not_locked(const struct place *place, const struct patience *patience
     return STATUS_SYSTEM;
 }
 
-/* Reading is enough to lock, so that all who may read the lock can share a journal. */
+/* Reading is enough to lock, so that all who may read the lock can share a journal. From here on nothing is said before
+ * the lock is let go. */
 int take_name_lock(struct place *place, const struct patience *patience) {
-    place->lock = open_locked(place->lock_path, O_CREAT, patience);
-    return place->lock >= 0 ? STATUS_DONE : not_locked(place, patience, "its lock", place->lock_path);
+    place->lock = open_locked(place->lock_path, true, patience);
+    if (place->lock >= 0) {
+        hold_back();
+        return STATUS_DONE;
+    }
+    if (errno == EINVAL) {
+        complain(place->name,
+                 "its lock %s is no lock, which is an empty file of one name: look what it is, and move it away",
+                 place->lock_path);
+        return STATUS_SYSTEM;
+    }
+    return not_locked(place, patience, "its lock", place->lock_path);
 }
 
 int take_file_lock(struct place *place, const struct patience *patience) {
-    place->file = open_locked(place->path, 0, patience);
-    return place->file >= 0 ? STATUS_DONE : not_locked(place, patience, "the journal", place->path);
+    place->file = open_locked(place->path, false, patience);
+    if (place->file >= 0) {
+        return STATUS_DONE;
+    }
+    return errno == EINVAL ? no_file(place) : not_locked(place, patience, "the journal", place->path);
 }

@@ -3,6 +3,7 @@
 #include <fcntl.h>
 #include <signal.h>
 #include <string.h>
+#include <sys/stat.h>
 #include <unistd.h>
 
 #include "arguments.h"
@@ -71,10 +72,14 @@ static int run_words(int count, char **words) {
     return subcommand == NULL ? no_subcommand(words[0]) : run(subcommand, count, words);
 }
 
-/* A reader that goes away and a file that may not grow are failures of a write, not the end of the command. */
+/* A reader that goes away and a file that may not grow are failures of a write, not the end of the command. A child
+ * that has ended is waited for, whatever the caller does with its own. What is made is the owner's alone from the
+ * start. */
 int main(int count, char **words) {
     signal(SIGPIPE, SIG_IGN);
     signal(SIGXFSZ, SIG_IGN);
+    signal(SIGCHLD, SIG_DFL);
+    umask(077);
     if (!fill_descriptors()) {
         return failed("/dev/null", "nothing stands in for a closed descriptor");
     }

@@ -7,8 +7,10 @@
 #include "say.h"
 #include "status.h"
 
-static int exists_already(const char *name) {
-    complain(name, "exists already and stays as it is; --blank-existing blanks a journal, and what it holds is gone");
+static int exists_already(const char *name, bool blank_existing) {
+    complain(name, "exists already and stays as it is%s",
+             blank_existing ? ": it has come there meanwhile"
+                            : "; --blank-existing blanks a journal, and what it holds is gone");
     return STATUS_USAGE;
 }
 
@@ -27,23 +29,18 @@ static int blank(struct place *place, const struct patience *patience, const str
     return status;
 }
 
-static int create(struct place *place, const struct patience *patience, const struct bytes *journal, mode_t mode) {
-    int status = hold_name(place, patience, mode);
-    if (status != STATUS_DONE) {
-        return status;
-    }
-    status = create_journal(place, journal, mode);
-    return status == STATUS_USAGE ? exists_already(place->name) : status;
-}
-
 static int open_place(const struct arguments *arguments, struct place *place, const struct bytes *journal) {
     struct patience patience = patience_of(arguments);
     mode_t mode = arguments->has_mode ? arguments->mode : RIGHTS_PRIVATE;
-    if (!place->exists) {
-        return create(place, &patience, journal, mode);
+    if (place->exists) {
+        return arguments->blank_existing ? blank(place, &patience, journal, arguments->has_mode ? &mode : NULL)
+                                         : exists_already(place->name, false);
     }
-    return arguments->blank_existing ? blank(place, &patience, journal, arguments->has_mode ? &mode : NULL)
-                                     : exists_already(place->name);
+    int status = hold_name(place, &patience);
+    if (status == STATUS_DONE) {
+        status = create_journal(place, journal, mode);
+    }
+    return status == STATUS_USAGE ? exists_already(place->name, arguments->blank_existing) : status;
 }
 
 int open_command(const struct arguments *arguments) {

@@ -2,6 +2,7 @@
 #include "place.h"
 
 #include <errno.h>
+#include <fcntl.h>
 #include <stdio.h>
 #include <stdlib.h>
 #include <string.h>
@@ -79,25 +80,27 @@ static bool is_reserved(const char *path) {
     return ends_with(last, LOCK_ENDING) || (last[0] == '.' && ends_with(last, TEMPORARY_ENDING));
 }
 
+int no_file(const struct place *place) {
+    complain(place->name, "no journal: it is a folder, a pipe or a device");
+    return STATUS_SYSTEM;
+}
+
 static int look_at(struct place *place) {
     if (is_reserved(place->path)) {
         complain(place->name, "no journal: names that end in " LOCK_ENDING
                               ", and those of the form .NAME" TEMPORARY_ENDING ", are the command's own");
         return STATUS_USAGE;
     }
-    place->exists = lstat(place->path, &place->status) == 0;
+    struct stat status;
+    place->exists = lstat(place->path, &status) == 0;
     if (!place->exists && errno != ENOENT) {
         return failed(place->name, "no journal");
     }
-    if (place->exists && !S_ISREG(place->status.st_mode)) {
-        complain(place->name, "no journal: it is a folder, a pipe or a device");
-        return STATUS_SYSTEM;
-    }
-    return STATUS_DONE;
+    return place->exists && !S_ISREG(status.st_mode) ? no_file(place) : STATUS_DONE;
 }
 
 int find_journal(const char *name, struct place *place) {
-    *place = (struct place){.name = name, .lock = -1, .file = -1};
+    *place = (struct place){.name = name, .around = -1, .lock = -1, .file = -1};
     int status = name_places(place) ? look_at(place) : failed(name, "no journal");
     if (status != STATUS_DONE) {
         leave_place(place);
@@ -105,27 +108,51 @@ int find_journal(const char *name, struct place *place) {
     return status;
 }
 
-int find_existing_journal(const char *name, struct place *place) {
+static int find_existing(const char *name, const char *what, struct place *place) {
     int status = find_journal(name, place);
     if (status == STATUS_DONE && !place->exists) {
-        complain(name, "no journal: %s; 'crownhazel open' makes one", strerror(ENOENT));
+        complain(name, "%s", what);
         leave_place(place);
         return STATUS_SYSTEM;
     }
     return status;
 }
 
-/* Nothing was written to either file, so closing them can lose nothing. */
+int find_existing_journal(const char *name, struct place *place) {
+    return find_existing(
+        name, "no journal: there is none; 'crownhazel restore' puts a copy there, 'crownhazel open' makes a new one",
+        place);
+}
+
+int find_copy_of_journal(const char *name, struct place *place) {
+    return find_existing(name, "no copy: there is none", place);
+}
+
+int open_folder(struct place *place) {
+    place->around = open(place->folder, O_RDONLY | O_DIRECTORY | O_CLOEXEC);
+    if (place->around >= 0) {
+        return STATUS_DONE;
+    }
+    complain(place->name, "the folder %s cannot be opened: %s; whoever writes there has to read it too", place->folder,
+             strerror(errno));
+    return STATUS_SYSTEM;
+}
+
+static void close_open(int descriptor) {
+    if (descriptor >= 0) {
+        close(descriptor);
+    }
+}
+
+/* Nothing was written through them, so closing them can lose nothing. */
 void leave_place(struct place *place) {
-    if (place->file >= 0) {
-        close(place->file);
-    }
-    if (place->lock >= 0) {
-        close(place->lock);
-    }
+    close_open(place->file);
+    close_open(place->lock);
+    close_open(place->around);
+    say_held_back();
     free(place->path);
     free(place->folder);
     free(place->lock_path);
     free(place->fresh_path);
-    *place = (struct place){.lock = -1, .file = -1};
+    *place = (struct place){.around = -1, .lock = -1, .file = -1};
 }

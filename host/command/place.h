@@ -17,8 +17,8 @@ struct place {
     char *lock_path;  /* JOURNAL.lock: whoever changes the journal holds it. It is never removed */
     char *fresh_path; /* .JOURNAL.crownhazel~: a new journal while it is written. No journal can have such a name */
     bool exists;
-    struct stat status; /* of the journal's file, where it exists */
-    int lock, file;     /* descriptors of the lock and of the journal, negative where they are not open */
+    int around, lock, file; /* descriptors of the folder, the lock and the journal, negative where they are not open */
+    struct stat status;     /* of the journal's file as it was read */
 };
 
 /* Each answers a status, with a message where it is not STATUS_DONE; then there is nothing to leave. */
@@ -27,11 +27,18 @@ struct place {
  * is reserved. */
 int find_journal(const char *name, struct place *place);
 
-/* Finds a journal that exists. */
+/* Finds a journal that exists; a copy is one too. */
 int find_existing_journal(const char *name, struct place *place);
+int find_copy_of_journal(const char *name, struct place *place);
 
-/* Closes what is open, which ends the locks. */
+/* Opens the folder, so that it can be brought to the disk when something was written there. */
+int open_folder(struct place *place);
+
+/* Closes what is open, which ends the locks, and says what was held back. */
 void leave_place(struct place *place);
+
+/* Says that what stands there is no regular file. Answers STATUS_SYSTEM. */
+int no_file(const struct place *place);
 
 /* The last part of a path. */
 const char *last_part(const char *path);

@@ -40,7 +40,7 @@ static void leave_copy(struct copy *copy) {
 /* Finds, reads and tests a copy. Where that fails there is nothing to leave. */
 static int find_copy(const char *name, struct copy *copy) {
     *copy = (struct copy){0};
-    int status = find_existing_journal(name, &copy->place);
+    int status = find_copy_of_journal(name, &copy->place);
     if (status != STATUS_DONE) {
         return status;
     }
@@ -52,26 +52,6 @@ static int find_copy(const char *name, struct copy *copy) {
         leave_copy(copy);
     }
     return status;
-}
-
-/* Gives the journal a second name, which it keeps when the copy takes the first. Numbers that are taken are passed
- * over. NULL with a message where it fails. */
-static char *keep_former(const struct place *place) {
-    for (int number = 1; number <= MOST_KEPT; number++) {
-        char *kept = NULL;
-        if (asprintf(&kept, "%s.replaced-%d", place->path, number) < 0) {
-            break;
-        }
-        if (link(place->path, kept) == 0) {
-            return kept;
-        }
-        free(kept);
-        if (errno != EEXIST) {
-            break;
-        }
-    }
-    failed(place->name, "what is there cannot be kept under another name; the journal is as it was");
-    return NULL;
 }
 
 /* What was restored, and over what. */
@@ -87,7 +67,51 @@ static void compare(const struct copy *copy, const struct bytes *former, struct 
     outcome->lacking = outcome->known ? lacking(former, &contents, &copy->bytes, &copy->contents) : 0;
 }
 
-/* Where the journal was not replaced, its second name goes again. */
+/* Gives the journal that was read a second name, which it keeps when the copy takes the first. Numbers that are taken
+ * are passed over. False with errno where it fails; there is a second name then where it names another file. */
+static bool keep_former(const struct place *place, struct outcome *outcome) {
+    for (int number = 1; number <= MOST_KEPT; number++) {
+        free(outcome->kept);
+        outcome->kept = NULL;
+        if (asprintf(&outcome->kept, "%s.replaced-%d", place->path, number) < 0) {
+            outcome->kept = NULL;
+            return false;
+        }
+        if (link(place->path, outcome->kept) == 0) {
+            return names_file(outcome->kept, place->file);
+        }
+        if (errno != EEXIST) {
+            break;
+        }
+    }
+    free(outcome->kept);
+    outcome->kept = NULL;
+    return false;
+}
+
+/* A second name of what stands in the journal's place now keeps nothing, and goes again. */
+static void drop_kept(const struct place *place, struct outcome *outcome) {
+    struct stat now, kept;
+    if (outcome->kept != NULL && lstat(place->path, &now) == 0 && lstat(outcome->kept, &kept) == 0 &&
+        now.st_dev == kept.st_dev && now.st_ino == kept.st_ino) {
+        unlink(outcome->kept);
+        free(outcome->kept);
+        outcome->kept = NULL;
+    }
+}
+
+/* What is kept is on the disk before the copy takes its place. */
+static int put_copy(const struct place *place, const struct copy *copy, struct outcome *outcome) {
+    int status = settle_journal(place);
+    if (status != STATUS_DONE) {
+        return status;
+    }
+    if (!keep_former(place, outcome)) {
+        return failed(place->name, "what is there cannot be kept under another name; the journal is as it was");
+    }
+    return replace_journal(place, &copy->bytes, NULL);
+}
+
 static int restore_over(struct place *place, const struct patience *patience, const struct copy *copy,
                         struct outcome *outcome) {
     struct bytes former;
@@ -97,16 +121,15 @@ static int restore_over(struct place *place, const struct patience *patience, co
     }
     compare(copy, &former, outcome);
     let_go(&former);
-    outcome->kept = keep_former(place);
-    status = outcome->kept == NULL ? STATUS_SYSTEM : replace_journal(place, &copy->bytes, NULL);
-    if (status != STATUS_DONE && outcome->kept != NULL && names_file(place->path, place->file)) {
-        unlink(outcome->kept);
+    status = put_copy(place, copy, outcome);
+    if (status != STATUS_DONE) {
+        drop_kept(place, outcome);
     }
     return status;
 }
 
 static int restore_where_none_is(struct place *place, const struct patience *patience, const struct copy *copy) {
-    int status = hold_name(place, patience, RIGHTS_PRIVATE);
+    int status = hold_name(place, patience);
     if (status != STATUS_DONE) {
         return status;
     }
@@ -131,18 +154,23 @@ static int restore_place(const struct arguments *arguments, struct place *place,
     return restore_over(place, &patience, copy, outcome);
 }
 
-static int tell(const char *name, size_t entries, const struct outcome *outcome) {
+/* What was kept is said also where the copy is not sure to be on the disk, or the answer cannot be written: a second
+ * restoring would compare the copy with itself. */
+static int tell(const char *name, size_t entries, const struct outcome *outcome, int status) {
     char lacks[24] = "unknown";
-    if (outcome->kept == NULL) {
-        return answer(name, "restored, entries %zu", entries);
-    }
     if (outcome->known) {
         snprintf(lacks, sizeof lacks, "%zu", outcome->lacking);
     }
-    if (!outcome->known || outcome->lacking > 0) {
-        complain(name, "deliver again the files that came since the copy");
+    if (outcome->kept != NULL && (status != STATUS_DONE || !outcome->known || outcome->lacking > 0)) {
+        complain(name, "deliver again the files that came since the copy; it lacks %s of the statements of %s", lacks,
+                 outcome->kept);
     }
-    return answer(name, "restored, entries %zu, lacking %s, kept %s", entries, lacks, outcome->kept);
+    if (status != STATUS_DONE) {
+        return status;
+    }
+    return outcome->kept == NULL
+               ? answer(name, "restored, entries %zu", entries)
+               : answer(name, "restored, entries %zu, lacking %s, kept %s", entries, lacks, outcome->kept);
 }
 
 int restore_command(const struct arguments *arguments) {
@@ -159,9 +187,7 @@ int restore_command(const struct arguments *arguments) {
         leave_place(&place);
     }
     leave_copy(&copy);
-    if (status == STATUS_DONE) {
-        status = tell(arguments->operands[0], copy.contents.count, &outcome);
-    }
+    status = tell(arguments->operands[0], copy.contents.count, &outcome, status);
     free(outcome.kept);
     return status;
 }

@@ -12,14 +12,13 @@ enum {
     MOST_ACCESS_LIST = 8192
 };
 
+/* Where there is a list, the group's bits of the mode are what the list lends at most, not the group's own. */
 struct rights {
     uid_t owner;
     gid_t group;
     mode_t mode;
-    bool listed; /* there is a list: the group's bits of the mode are then what the list lends at most, not the group's
-                  */
     uint8_t list[MOST_ACCESS_LIST];
-    size_t length; /* 0 where the list cannot be read */
+    size_t length; /* of the list; 0 where there is none */
 };
 
 /* Each gives false with errno set where it fails. */
@@ -27,10 +26,10 @@ struct rights {
 bool read_rights(int descriptor, struct rights *rights);
 bool same_rights(const struct rights *one, const struct rights *other);
 
-/* Owner, group and list as far as that is permitted; what cannot be kept makes the rights narrower, never wider. */
+/* All of them, but for the owner, who is kept as far as that is permitted. Where the rest cannot be kept it fails. */
 bool give_rights(int descriptor, const struct rights *rights);
 
-/* These rights alone, whatever the umask, and no list that a folder hands down. */
+/* These rights alone, and no list that a folder hands down. */
 bool give_mode(int descriptor, mode_t mode);
 
 #endif

@@ -17,6 +17,10 @@
 /* The width of the passing line that stands on the terminal; 0 where there is none. */
 static int passing_width;
 
+/* What is held back, and whether it is. */
+static struct bytes kept_back;
+static bool holding_back;
+
 /* Head, name, ': ', text, all spelt, and a line feed; NULL where there is no memory. */
 static char *compose(const char *head, const char *name, const char *format, va_list values) {
     char *text = NULL;
@@ -44,11 +48,26 @@ void complain(const char *name, const char *format, ...) {
     char *line = compose("crownhazel: ", name, format, values);
     va_end(values);
     const char *said = line != NULL ? line : "crownhazel: no memory\n";
-    wipe_passing();
-    /* Where standard error cannot be written there is nobody left to tell; the status says it. */
-    write_whole(STDERR_FILENO, said, strlen(said));
+    if (!holding_back || !append(&kept_back, said, strlen(said))) {
+        wipe_passing();
+        /* Where standard error cannot be written there is nobody left to tell; the status says it. */
+        write_whole(STDERR_FILENO, said, strlen(said));
+    }
     free(line);
     errno = error;
+}
+
+void hold_back(void) {
+    holding_back = true;
+}
+
+void say_held_back(void) {
+    holding_back = false;
+    if (kept_back.length > 0) {
+        wipe_passing();
+        write_whole(STDERR_FILENO, kept_back.first, kept_back.length);
+        let_go(&kept_back);
+    }
 }
 
 int failed(const char *name, const char *what) {
@@ -108,7 +127,7 @@ int answer(const char *name, const char *format, ...) {
 
 void show_passing(const char *format, ...) {
     char line[80] = "\r";
-    if (!isatty(STDERR_FILENO)) {
+    if (holding_back || !isatty(STDERR_FILENO)) {
         return;
     }
     wipe_passing();

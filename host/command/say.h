@@ -25,6 +25,11 @@ __attribute__((format(printf, 2, 3))) int answer(const char *name, const char *f
 /* Text as it is on standard output. Answers as above. */
 int answer_text(const void *text, size_t length);
 
+/* Between these two what is said on standard error is kept and not written: whoever holds a lock waits for no reader.
+ */
+void hold_back(void);
+void say_held_back(void);
+
 /* Shows a passing line, on a terminal only. The next line that is said wipes it away. */
 __attribute__((format(printf, 1, 2))) void show_passing(const char *format, ...);
 void wipe_passing(void);

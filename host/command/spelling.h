@@ -2,9 +2,9 @@
 #ifndef COMMAND_SPELLING_H
 #define COMMAND_SPELLING_H
 
-/* The text with '\\' for a backslash and '\xHH' for each byte of what does not show as itself: control characters of
- * any kind, marks of direction, blanks other than ' ', accents that stand alone, and bytes that are no UTF-8. NULL
- * where there is no memory. */
+/* The text with '\\' for a backslash and '\xHH' for each byte of whatever is neither a printable character of ASCII nor
+ * a letter of French and its neighbours in one piece: control characters of any kind, marks of direction, other blanks,
+ * accents that stand alone, other alphabets, bytes that are no UTF-8. NULL where there is no memory. */
 char *spelt(const char *text);
 
 #endif
