@@ -47,7 +47,9 @@ static void set_alarm(const struct patience *patience) {
     sigaddset(&alarms, SIGALRM);
     sigaction(SIGALRM, &action, NULL);
     sigprocmask(SIG_UNBLOCK, &alarms, NULL);
-    alarm.it_value.tv_usec += 1; /* nothing at all would be no alarm */
+    if (alarm.it_value.tv_sec == 0 && alarm.it_value.tv_usec == 0) {
+        alarm.it_value.tv_usec = 1; /* nothing at all would be no alarm */
+    }
     setitimer(ITIMER_REAL, &alarm, NULL);
 }
 
@@ -108,8 +110,8 @@ static int close_with(int error, int descriptor) {
     return -1;
 }
 
-/* Whether this is a regular file, not to say a lock: those are empty and have one name, so that nothing else is ever
- * taken for one, and given the rights of one. */
+/* Whether this is a regular file and, where it is to be a lock, one that is empty and has one name: nothing else is
+ * ever taken for a lock, and given the rights of one. False with EINVAL where it is not. */
 static bool is_right_file(int descriptor, bool lock) {
     struct stat status;
     if (fstat(descriptor, &status) != 0) {

@@ -78,7 +78,9 @@ static bool keep_former(const struct place *place, struct outcome *outcome) {
             return false;
         }
         if (link(place->path, outcome->kept) == 0) {
-            return names_file(outcome->kept, place->file);
+            bool right = names_file(outcome->kept, place->file);
+            errno = errno == 0 ? ESTALE : errno;
+            return right;
         }
         if (errno != EEXIST) {
             break;
