@@ -211,10 +211,13 @@ static void list_options(const struct subcommand *subcommand, struct option list
     listed[count] = (struct option){0};
 }
 
-/* The word that getopt_long has stopped at: in the middle of one with several letters, or just behind it. */
+/* The word that getopt_long has stopped at: just behind one with a single letter or a long one, else in the middle of
+ * one with several letters. */
 static const char *word_at_fault(int count, char **words) {
+    const char *passed = words[optind - 1];
+    bool single = passed[0] == '-' && passed[1] == (char)optopt && passed[2] == '\0';
     bool inside = optind < count && words[optind][0] == '-' && optopt != 0 && strchr(words[optind], optopt) != NULL;
-    return words[inside ? optind : optind - 1];
+    return inside && !single ? words[optind] : passed;
 }
 
 static bool take_options(int count, char **words, struct arguments *arguments) {

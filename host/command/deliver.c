@@ -21,7 +21,7 @@ static uint64_t delivered_to(struct bytes *journal, const struct input *input) {
 
 /* What was stored is brought to the disk, and so is what was held: the run that stored it can have been killed before
  * it was safe. An empty file leaves nothing to do. */
-static int keep(const struct place *place, const struct bytes *journal, uint64_t delivered) {
+static int keep(struct place *place, const struct bytes *journal, uint64_t delivered) {
     if (crownhazel_stored(delivered) > 0) {
         return replace_journal(place, journal, NULL);
     }
@@ -29,8 +29,7 @@ static int keep(const struct place *place, const struct bytes *journal, uint64_t
 }
 
 /* Delivers to a copy of the journal in memory. The locks are held, and let go before anything is said of the file. */
-static int deliver_held(const struct place *place, struct bytes *journal, const struct input *input,
-                        uint64_t *delivered) {
+static int deliver_held(struct place *place, struct bytes *journal, const struct input *input, uint64_t *delivered) {
     *delivered = delivered_to(journal, input);
     return crownhazel_is_refused(*delivered) ? STATUS_DONE : keep(place, journal, *delivered);
 }

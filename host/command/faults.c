@@ -36,6 +36,7 @@ int __real_fsetxattr(int descriptor, const char *name, const void *value, size_t
 int __real_fstat(int descriptor, struct stat *status);
 int __real_fsync(int descriptor);
 int __real_link(const char *from, const char *to);
+int __real_linkat(int from_folder, const char *from, int to_folder, const char *to, int flags);
 off_t __real_lseek(int descriptor, off_t offset, int from);
 int __real_lstat(const char *path, struct stat *status);
 int __real_memfd_create(const char *name, unsigned flags);
@@ -60,6 +61,7 @@ int __wrap_fsetxattr(int descriptor, const char *name, const void *value, size_t
 int __wrap_fstat(int descriptor, struct stat *status);
 int __wrap_fsync(int descriptor);
 int __wrap_link(const char *from, const char *to);
+int __wrap_linkat(int from_folder, const char *from, int to_folder, const char *to, int flags);
 off_t __wrap_lseek(int descriptor, off_t offset, int from);
 int __wrap_lstat(const char *path, struct stat *status);
 int __wrap_memfd_create(const char *name, unsigned flags);
@@ -227,6 +229,11 @@ int __wrap_fsync(int descriptor) {
 int __wrap_link(const char *from, const char *to) {
     int result;
     return is_kept_from("link", &result) ? result : __real_link(from, to);
+}
+
+int __wrap_linkat(int from_folder, const char *from, int to_folder, const char *to, int flags) {
+    int result;
+    return is_kept_from("linkat", &result) ? result : __real_linkat(from_folder, from, to_folder, to, flags);
 }
 
 off_t __wrap_lseek(int descriptor, off_t offset, int from) {

@@ -11,7 +11,7 @@
 
 /* The longer journal is the old one and blank lines: it holds the same statements. That it is sound is proved; the test
  * is for what this side did. */
-static int replace_by_longer(const struct place *place, const struct bytes *old, struct bytes *longer) {
+static int replace_by_longer(struct place *place, const struct bytes *old, struct bytes *longer) {
     memcpy(longer->first, old->first, old->length);
     uint64_t used = crownhazel_used(longer->first, longer->length);
     return crownhazel_is_refused(used) ? refused_by(place->name, used, place->name, lines_of(longer))
@@ -19,7 +19,7 @@ static int replace_by_longer(const struct place *place, const struct bytes *old,
 }
 
 /* A journal that has so many lines already is left as it is, so that the call can be made again. */
-static int grow_held(const struct place *place, const struct bytes *old, struct bytes *longer) {
+static int grow_held(struct place *place, const struct bytes *old, struct bytes *longer) {
     uint64_t used = crownhazel_used(old->first, old->length);
     if (crownhazel_is_refused(used)) {
         return refused_by(place->name, used, place->name, lines_of(old));

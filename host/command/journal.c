@@ -40,12 +40,14 @@ int read_journal(struct place *place, struct bytes *journal) {
     return S_ISREG(status.st_mode) ? read_from(place, journal) : no_file(place);
 }
 
-/* Whoever may use the journal may use its lock. That only the lock's owner can set it right is no hindrance. */
-static void share_lock(const struct place *place, int journal) {
+/* Whoever may use the journal may use its lock. That only the lock's owner can set it right is no hindrance; but a lock
+ * that is ours, and that cannot be set right, would shut others out, and goes when we do. */
+static void share_lock(struct place *place, int journal) {
     struct rights rights, lock;
-    if (read_rights(journal, &rights) && read_rights(place->lock, &lock) && !same_rights(&rights, &lock)) {
-        give_rights(place->lock, &rights);
+    if (!read_rights(journal, &rights) || !read_rights(place->lock, &lock) || same_rights(&rights, &lock)) {
+        return;
     }
+    place->lock_goes = !give_rights(place->lock, &rights) && lock.owner == geteuid();
 }
 
 int hold_journal(struct place *place, const struct patience *patience, struct bytes *journal) {
@@ -96,6 +98,16 @@ static bool give_either(int descriptor, const struct place *place, const mode_t 
     return give_rights(descriptor, &rights);
 }
 
+/* The new journal goes again, where its temporary name is still its own. Where that fails, the next run does it. errno
+ * stays. */
+static void remove_fresh(const struct place *place, int fresh) {
+    int error = errno;
+    if (names_file(place->fresh_path, fresh)) {
+        unlink(place->fresh_path);
+    }
+    errno = error;
+}
+
 /* The new journal, on the disk under its temporary name; negative with errno where it fails. What a run that was killed
  * has left is removed and never written to: it can be a second name of the journal itself, left by an opening. */
 static int write_fresh(const struct place *place, const struct bytes *journal, const mode_t *mode) {
@@ -106,19 +118,12 @@ static int write_fresh(const struct place *place, const struct bytes *journal, c
     if (fresh < 0 || (give_either(fresh, place, mode) && write_to_disk(fresh, journal))) {
         return fresh;
     }
+    remove_fresh(place, fresh);
     close_after(false, fresh);
     return -1;
 }
 
-/* Where that fails, the next run does it. errno stays. */
-static void remove_fresh(const struct place *place) {
-    int error = errno;
-    unlink(place->fresh_path);
-    errno = error;
-}
-
 static int not_written(const struct place *place, const char *left) {
-    remove_fresh(place);
     complain(place->name, "%s cannot be written: %s; %s", place->fresh_path, strerror(errno), left);
     return STATUS_SYSTEM;
 }
@@ -164,25 +169,24 @@ int settle_journal(const struct place *place) {
     return errno == 0 ? not_the_same(place) : failed(place->name, "the journal cannot be looked at");
 }
 
-/* Puts the new journal in the old one's place. */
-static int put_fresh(const struct place *place, int fresh) {
-    if (!is_still_there(place)) {
-        if (errno != 0) {
-            return not_written(place, as_it_was);
-        }
-        remove_fresh(place);
-        return not_the_same(place);
+/* Puts the new journal in the old one's place. That it is the new one is looked at before the rename and before the
+ * answer. */
+static int put_fresh(struct place *place, int fresh) {
+    if (!is_still_there(place) || !names_file(place->fresh_path, fresh)) {
+        return errno == 0 ? not_the_same(place) : not_written(place, as_it_was);
     }
     if (rename(place->fresh_path, place->path) != 0) {
         return not_written(place, as_it_was);
     }
+    place->replaced = true;
     share_lock(place, fresh);
-    return sync_folder(place);
+    int status = sync_folder(place);
+    return status == STATUS_DONE && !names_file(place->path, fresh) && errno == 0 ? not_the_same(place) : status;
 }
 
 /* A rename does not ask for the right to write the old file, so it is asked for here: a journal can be closed by its
  * mode. */
-int replace_journal(const struct place *place, const struct bytes *journal, const mode_t *mode) {
+int replace_journal(struct place *place, const struct bytes *journal, const mode_t *mode) {
     if (access(place->path, W_OK) != 0) {
         return failed(place->name, "the journal may not be changed");
     }
@@ -191,27 +195,35 @@ int replace_journal(const struct place *place, const struct bytes *journal, cons
         return not_written(place, as_it_was);
     }
     int status = put_fresh(place, fresh);
+    if (!place->replaced) {
+        remove_fresh(place, fresh);
+    }
     close(fresh); /* all of it is on the disk */
     return status;
 }
 
+/* Gives the new journal its name by its descriptor, whatever has its temporary name by now; by that name where the
+ * system shows no descriptors. */
+static bool give_name(const struct place *place, int fresh) {
+    char file[32];
+    snprintf(file, sizeof file, "/proc/self/fd/%d", fresh);
+    if (linkat(AT_FDCWD, file, AT_FDCWD, place->path, AT_SYMLINK_FOLLOW) == 0) {
+        return true;
+    }
+    int error = errno;
+    if (error == ENOENT && access("/proc/self/fd", F_OK) != 0) {
+        return link(place->fresh_path, place->path) == 0;
+    }
+    errno = error;
+    return false;
+}
+
 /* By a link, which fails where the name is taken: a file that appears in between is not overwritten. Where it is not
  * sure to be on the disk it goes again, so that the same call can be made again. */
-static int link_fresh(const struct place *place, int fresh) {
-    if (!names_file(place->fresh_path, fresh)) {
-        return errno == 0 ? not_the_same(place) : not_written(place, none_yet);
+static int link_fresh(struct place *place, int fresh) {
+    if (!give_name(place, fresh)) {
+        return errno == EEXIST ? STATUS_USAGE : not_written(place, none_yet);
     }
-    if (link(place->fresh_path, place->path) != 0) {
-        if (errno != EEXIST) {
-            return not_written(place, none_yet);
-        }
-        remove_fresh(place);
-        return STATUS_USAGE;
-    }
-    if (!names_file(place->path, fresh) && errno == 0) {
-        return not_the_same(place);
-    }
-    remove_fresh(place);
     share_lock(place, fresh);
     int status = sync_folder(place);
     if (status != STATUS_DONE) {
@@ -220,12 +232,13 @@ static int link_fresh(const struct place *place, int fresh) {
     return status;
 }
 
-int create_journal(const struct place *place, const struct bytes *journal, mode_t mode) {
+int create_journal(struct place *place, const struct bytes *journal, mode_t mode) {
     int fresh = write_fresh(place, journal, &mode);
     if (fresh < 0) {
         return not_written(place, none_yet);
     }
     int status = link_fresh(place, fresh);
+    remove_fresh(place, fresh);
     close(fresh);
     return status;
 }

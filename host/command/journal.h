@@ -23,10 +23,10 @@ int hold_name(struct place *place, const struct patience *patience);
 /* These want the locks. */
 
 /* Puts a new journal in the place of the one that was read, with its rights; with this mode where it is not NULL. */
-int replace_journal(const struct place *place, const struct bytes *journal, const mode_t *mode);
+int replace_journal(struct place *place, const struct bytes *journal, const mode_t *mode);
 
 /* Puts a new journal where there is none. STATUS_USAGE, without a message, where there is a file by now. */
-int create_journal(const struct place *place, const struct bytes *journal, mode_t mode);
+int create_journal(struct place *place, const struct bytes *journal, mode_t mode);
 
 /* Waits until the journal that was read, and its name, are on the disk. */
 int settle_journal(const struct place *place);

@@ -61,9 +61,11 @@ static void end_alarm(void) {
     errno = error;
 }
 
-/* Waits in the row with all others: whoever asked again and again would always come last. False with ETIMEDOUT where
- * patience is over. */
-static bool wait_for(int descriptor, const struct patience *patience) {
+/* How an attempt at a lock ended. */
+enum attempt { TAKEN, IN_USE, NOT_RIGHT, FAILED };
+
+/* Waits in the row with all others: whoever asked again and again would always come last. */
+static enum attempt wait_for(int descriptor, const struct patience *patience) {
     int status;
     if (patience->limited) {
         set_alarm(patience);
@@ -71,24 +73,28 @@ static bool wait_for(int descriptor, const struct patience *patience) {
     do {
         status = flock(descriptor, LOCK_EX);
     } while (status != 0 && errno == EINTR && !is_over(patience));
-    end_alarm();
-    if (status != 0 && errno == EINTR) {
-        errno = ETIMEDOUT;
+    if (patience->limited) {
+        end_alarm();
     }
-    return status == 0;
+    if (status == 0) {
+        return TAKEN;
+    }
+    return errno == EINTR ? IN_USE : FAILED;
 }
 
-static bool take_lock(int descriptor, const struct patience *patience) {
+static enum attempt take_lock(int descriptor, const struct patience *patience) {
     int status;
     do {
         status = flock(descriptor, LOCK_EX | LOCK_NB);
     } while (status != 0 && errno == EINTR);
-    if (status == 0 || errno != EWOULDBLOCK) {
-        return status == 0;
+    if (status == 0) {
+        return TAKEN;
+    }
+    if (errno != EWOULDBLOCK) {
+        return FAILED;
     }
     show_passing("waiting: another command holds the journal");
-    errno = ETIMEDOUT;
-    return !is_over(patience) && wait_for(descriptor, patience);
+    return is_over(patience) ? IN_USE : wait_for(descriptor, patience);
 }
 
 bool names_file(const char *path, int descriptor) {
@@ -104,48 +110,46 @@ bool names_file(const char *path, int descriptor) {
     return named.st_dev == open.st_dev && named.st_ino == open.st_ino;
 }
 
-static int close_with(int error, int descriptor) {
-    close(descriptor);
-    errno = error;
-    return -1;
-}
-
 /* Whether this is a regular file and, where it is to be a lock, one that is empty and has one name: nothing else is
- * ever taken for a lock, and given the rights of one. False with EINVAL where it is not. */
-static bool is_right_file(int descriptor, bool lock) {
+ * ever taken for a lock, and given the rights of one. */
+static enum attempt look_at(int descriptor, bool lock) {
     struct stat status;
     if (fstat(descriptor, &status) != 0) {
-        return false;
+        return FAILED;
     }
     bool right = S_ISREG(status.st_mode) && (!lock || (status.st_size == 0 && status.st_nlink <= 1));
-    errno = right ? 0 : EINVAL;
-    return right;
+    return right ? TAKEN : NOT_RIGHT;
 }
 
-/* Opens and locks the file that a path names: where another file has come there meanwhile, once more. Negative where it
- * fails. No opening waits, not for a pipe either. */
-static int open_locked(const char *path, bool lock, const struct patience *patience) {
+/* Opens and locks the file that a path names: where another file has come there meanwhile, once more. No opening waits,
+ * not for a pipe either. errno says why it failed. */
+static enum attempt open_locked(const char *path, bool lock, int flags, const struct patience *patience,
+                                int *descriptor) {
     for (;;) {
-        int flags = O_RDONLY | O_CLOEXEC | O_NOFOLLOW | O_NONBLOCK | (lock ? O_CREAT : 0);
-        int descriptor = open(path, flags, RIGHTS_PRIVATE);
-        if (descriptor < 0) {
-            return -1;
+        *descriptor = open(path, O_RDONLY | O_CLOEXEC | O_NOFOLLOW | O_NONBLOCK | flags, RIGHTS_PRIVATE);
+        if (*descriptor < 0) {
+            return FAILED;
         }
-        if (!is_right_file(descriptor, lock) || !take_lock(descriptor, patience)) {
-            return close_with(errno, descriptor);
+        enum attempt attempt = look_at(*descriptor, lock);
+        if (attempt == TAKEN) {
+            attempt = take_lock(*descriptor, patience);
         }
-        if (names_file(path, descriptor)) {
-            return descriptor;
+        if (attempt == TAKEN && names_file(path, *descriptor)) {
+            return TAKEN;
         }
-        if (errno != 0) {
-            return close_with(errno, descriptor);
+        int error = errno;
+        close(*descriptor);
+        *descriptor = -1;
+        errno = error;
+        if (attempt != TAKEN || error != 0) {
+            return attempt == TAKEN ? FAILED : attempt;
         }
-        close(descriptor);
     }
 }
 
-static int not_locked(const struct place *place, const struct patience *patience, const char *what, const char *path) {
-    if (errno == ETIMEDOUT) {
+static int not_locked(const struct place *place, const struct patience *patience, enum attempt attempt,
+                      const char *what, const char *path) {
+    if (attempt == IN_USE) {
         complain(place->name, "another command holds the journal: %u seconds were waited; try again",
                  patience->seconds);
     } else {
@@ -154,27 +158,28 @@ static int not_locked(const struct place *place, const struct patience *patience
     return STATUS_SYSTEM;
 }
 
-/* Reading is enough to lock, so that all who may read the lock can share a journal. From here on nothing is said before
- * the lock is let go. */
+/* Reading is enough to lock, so that all who may read the lock can share a journal; only who may change the journal
+ * makes one. From here on nothing is said before the lock is let go. */
 int take_name_lock(struct place *place, const struct patience *patience) {
-    place->lock = open_locked(place->lock_path, true, patience);
-    if (place->lock >= 0) {
+    bool may_make = !place->exists || access(place->path, W_OK) == 0;
+    enum attempt attempt = open_locked(place->lock_path, true, may_make ? O_CREAT : 0, patience, &place->lock);
+    if (attempt == TAKEN) {
         hold_back();
         return STATUS_DONE;
     }
-    if (errno == EINVAL) {
+    if (attempt == NOT_RIGHT) {
         complain(place->name,
                  "its lock %s is no lock, which is an empty file of one name: look what it is, and move it away",
                  place->lock_path);
         return STATUS_SYSTEM;
     }
-    return not_locked(place, patience, "its lock", place->lock_path);
+    return not_locked(place, patience, attempt, "its lock", place->lock_path);
 }
 
 int take_file_lock(struct place *place, const struct patience *patience) {
-    place->file = open_locked(place->path, false, patience);
-    if (place->file >= 0) {
+    enum attempt attempt = open_locked(place->path, false, 0, patience, &place->file);
+    if (attempt == TAKEN) {
         return STATUS_DONE;
     }
-    return errno == EINVAL ? no_file(place) : not_locked(place, patience, "the journal", place->path);
+    return attempt == NOT_RIGHT ? no_file(place) : not_locked(place, patience, attempt, "the journal", place->path);
 }

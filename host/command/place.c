@@ -8,6 +8,7 @@
 #include <string.h>
 #include <unistd.h>
 
+#include "lock.h"
 #include "say.h"
 #include "status.h"
 
@@ -144,8 +145,12 @@ static void close_open(int descriptor) {
     }
 }
 
-/* Nothing was written through them, so closing them can lose nothing. */
+/* Nothing was written through them, so closing them can lose nothing. Whoever waits for a lock that goes looks at its
+ * name again. */
 void leave_place(struct place *place) {
+    if (place->lock_goes && names_file(place->lock_path, place->lock)) {
+        unlink(place->lock_path);
+    }
     close_open(place->file);
     close_open(place->lock);
     close_open(place->around);

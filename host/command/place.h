@@ -19,6 +19,8 @@ struct place {
     bool exists;
     int around, lock, file; /* descriptors of the folder, the lock and the journal, negative where they are not open */
     struct stat status;     /* of the journal's file as it was read */
+    bool lock_goes;         /* the lock would shut others out who may use the journal: it is removed with the place */
+    bool replaced;          /* a new journal has taken the old one's place */
 };
 
 /* Each answers a status, with a message where it is not STATUS_DONE; then there is nothing to leave. */

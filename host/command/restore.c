@@ -56,8 +56,9 @@ static int find_copy(const char *name, struct copy *copy) {
 
 /* What was restored, and over what. */
 struct outcome {
-    char *kept; /* the path of what was replaced; NULL where nothing was */
-    bool known; /* whether that was sound, so that it is known what the copy lacks of it */
+    bool replaced; /* whether the copy has taken the place of a journal */
+    char *kept;    /* the path of what stood there; NULL where nothing did */
+    bool known;    /* whether that was sound, so that it is known what the copy lacks of it */
     size_t lacking;
 };
 
@@ -103,7 +104,7 @@ static void drop_kept(const struct place *place, struct outcome *outcome) {
 }
 
 /* What is kept is on the disk before the copy takes its place. */
-static int put_copy(const struct place *place, const struct copy *copy, struct outcome *outcome) {
+static int put_copy(struct place *place, const struct copy *copy, struct outcome *outcome) {
     int status = settle_journal(place);
     if (status != STATUS_DONE) {
         return status;
@@ -124,6 +125,7 @@ static int restore_over(struct place *place, const struct patience *patience, co
     compare(copy, &former, outcome);
     let_go(&former);
     status = put_copy(place, copy, outcome);
+    outcome->replaced = place->replaced;
     if (status != STATUS_DONE) {
         drop_kept(place, outcome);
     }
@@ -163,16 +165,19 @@ static int tell(const char *name, size_t entries, const struct outcome *outcome,
     if (outcome->known) {
         snprintf(lacks, sizeof lacks, "%zu", outcome->lacking);
     }
-    if (outcome->kept != NULL && (status != STATUS_DONE || !outcome->known || outcome->lacking > 0)) {
+    if (outcome->replaced && (status != STATUS_DONE || !outcome->known || outcome->lacking > 0)) {
         complain(name, "deliver again the files that came since the copy; it lacks %s of the statements of %s", lacks,
                  outcome->kept);
     }
-    if (status != STATUS_DONE) {
-        return status;
+    if (status == STATUS_DONE) {
+        status = outcome->kept == NULL
+                     ? answer(name, "restored, entries %zu", entries)
+                     : answer(name, "restored, entries %zu, lacking %s, kept %s", entries, lacks, outcome->kept);
     }
-    return outcome->kept == NULL
-               ? answer(name, "restored, entries %zu", entries)
-               : answer(name, "restored, entries %zu, lacking %s, kept %s", entries, lacks, outcome->kept);
+    if (status != STATUS_DONE && outcome->kept != NULL) {
+        complain(name, "what stood there is kept as %s", outcome->kept);
+    }
+    return status;
 }
 
 int restore_command(const struct arguments *arguments) {
