@@ -9,7 +9,7 @@ use Rattle.zones.specs.Choice.{pick}
 use Rattle.framing.specs.declared.Frame.{Frame}
 use Rattle.framing.specs.declared.Frame.the-variants as F
 use Rattle.framing.specs.Files.{unknownEnd, uneven, tooMany}
-use Rattle.framing.specs.Frames.{frameOf}
+use Rattle.framing.specs.Frames.{frameOf, frameBy}
 use Rattle.framing.proofs.Framing.{frame-length}
 use Rattle.grammar.specs.Answer.{Answer, refused, first, cut, whole}
 use Rattle.grammar.specs.Files.{checkOf, Ruled, line, multiple, many, records}
@@ -37,7 +37,7 @@ module _ (e : ℕ) (b : List ℕ) where
     few : tooMany recordSize mostInFile (form e) b ≡ false
 
   passed : {w n : ℕ} → F.Records w n ≡ frameOf (form e) recordSize mostInFile b → Passed
-  unfolding frameOf
+  unfolding frameOf frameBy
   passed {w} {n} p = by _ _ (unknownEnd (form e)) refl (uneven recordSize (form e) b) refl (tooMany recordSize mostInFile (form e) b) refl p
     where
       by : (v m : ℕ) (x : Bool) → unknownEnd (form e) ≡ x → (y : Bool) → uneven recordSize (form e) b ≡ y

@@ -45,7 +45,7 @@ module _ (f : Form) (size most n : ℕ) where
 
 -- a file's frame is that of its length
 pub frame-length : (f : Form) (size most : ℕ) (b : List ℕ) → frameBy f size most (length b) ≡ frameOf f size most b
-unfolding frameOf frameBy
+unfolding frameOf
 frame-length f size most b = refl
 
 -- the line end, by its number

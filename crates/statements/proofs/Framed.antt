@@ -12,7 +12,7 @@ use Rattle.framing.specs.declared.Form.{Form}
 use Rattle.framing.specs.declared.Frame.{Frame}
 use Rattle.framing.specs.declared.Frame.the-variants.{Records, Refused}
 use Rattle.framing.specs.Files.{unknownEnd, widthOf, countOf, uneven, tooMany, chunks}
-use Rattle.framing.specs.Frames.{frameOf}
+use Rattle.framing.specs.Frames.{frameOf, frameBy}
 use Rattle.grammar.specs.Answer.{refused}
 use Rattle.grammar.specs.Machine.{scan}
 use Rattle.grammar.specs.Rules.{start}
@@ -26,7 +26,7 @@ Says f b (Records w n) = Sized f w n (length b) × (checkOf july f b ≡ scan (f
 Says f b (Refused k) = checkOf july f b ≡ refused k 0
 
 says : (f : Form) (b : List ℕ) → Says f b (frameOf f recordSize mostInFile b)
-unfolding frameOf checkOf widthOf
+unfolding frameOf frameBy checkOf widthOf
 says f b = by (unknownEnd f) (uneven recordSize f b) (tooMany recordSize mostInFile f b) refl refl refl
   where
     whole : uneven recordSize f b ≡ false → length b ≡ countOf recordSize f b * widthOf recordSize f
