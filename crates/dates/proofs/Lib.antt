@@ -1,4 +1,9 @@
 pub mod Order
 pub mod RoundTrip
 pub mod Reading
+pub mod Below
+pub mod Months
+pub mod Ordinals
+pub mod Calendar
+pub mod Examples
 pub mod One

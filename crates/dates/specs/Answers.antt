@@ -4,6 +4,7 @@ use mathlib.Core.Bool.{Bool}
 use mathlib.Core.List.{List}
 use Prim.Native.Nat.{ℕ}
 use Rattle.dates.specs.Days.{dateOf, isDay, canPut, putDate}
+use Rattle.dates.specs.Ordinals.{ordinalOf, ofOrdinal}
 use Rattle.dates.specs.declared.Date.{Date}
 
 -- read
@@ -18,3 +19,11 @@ pub record IsDay (k : ℕ) (r : Bool) : Type 0 where
 pub record Put (k : ℕ) (out : List ℕ) (r : Bool) (out′ : List ℕ) : Type 0 where
   pub answer : r ≡ canPut k out
   pub content : out′ ≡ putDate k out
+
+-- ordinal
+pub record Ordinal (k r : ℕ) : Type 0 where
+  pub answer : r ≡ ordinalOf k
+
+-- of_ordinal
+pub record OfOrdinal (n r : ℕ) : Type 0 where
+  pub answer : r ≡ ofOrdinal n

@@ -1,9 +1,10 @@
-// Dates DDMMYY that must exist, as numbers YYYYMMDD: a later day has a larger number.
+// Dates DDMMYY that must exist, as numbers YYYYMMDD: a later day has a larger number. Days as ordinals: 1 January 1980 is 0, 31 December 2079 is 36,524.
 ghost use mathlib.Core.Path.{_≡_};
-ghost use Prim.Native.Nat.{_<_, _≤_};
+ghost use Prim.Native.Nat.{suc, _+_, _<_, _≤_};
 ghost use lib.ListN.{length};
 ghost use Rattle.dates.specs.Days.{yearOf, isLeap, daysIn, exists as existsOf, dayOf, dateText};
-ghost use Rattle.dates.specs.Answers.{Read, IsDay, Put};
+ghost use Rattle.dates.specs.Ordinals.{beforeMonth};
+ghost use Rattle.dates.specs.Answers.{Read, IsDay, Put, Ordinal, OfOrdinal};
 
 pub enum Date {
     Day(u32),
@@ -109,4 +110,78 @@ pub fn put(out: &mut [u8], k: u32) -> bool
     }
     put_digits(out, k as u64);
     true
+}
+
+fn wider(days: u16) -> u64
+    ensures { λ r. ⌜ r ≡ days ⌝ }
+{
+    days as u64
+}
+
+// The days of the year 1980 + y before a month.
+fn before_month(y: u64, m: u64) -> u64
+    requires { ⌜ (y < 100) × (m < 14) ⌝ }
+    ensures { λ r. ⌜ (r ≡ beforeMonth (1980 + y) m) × (r ≤ 366) ⌝ }
+{
+    let days: [u16; 14] = [
+        0,
+        0,
+        31,
+        59,
+        90,
+        120,
+        151,
+        181,
+        212,
+        243,
+        273,
+        304,
+        334,
+        365,
+    ];
+    let plain = wider(days[m as usize]);
+    if (y % 4 == 0) & (2 < m) {
+        return plain + 1;
+    }
+    plain
+}
+
+// The month in which so many days of the year 1980 + y are behind: counted as 32 days a month it is this one or the next.
+fn month_of(y: u64, rest: u64) -> u64
+    requires { ⌜ (y < 100) × (rest < beforeMonth (1980 + y) 13) ⌝ }
+    ensures { λ r. ⌜ (beforeMonth (1980 + y) r ≤ rest) × (rest < beforeMonth (1980 + y) (suc r)) × (r < 13) ⌝ }
+{
+    let m = rest / 32 + 1;
+    if before_month(y, m + 1) <= rest {
+        return m + 1;
+    }
+    m
+}
+
+// The ordinal of a number YYYYMMDD; 36,525 for a number of no day.
+pub fn ordinal(k: u32) -> u32
+    ensures { λ r. ⌜ Ordinal k r ⌝ }
+{
+    if !is_day(k) {
+        return 36525;
+    }
+    let n = k as u64;
+    let y = n / 10000 - 1980;
+    let months = before_month(y, n / 100 % 100);
+    (y * 365 + (y + 3) / 4 + months + (n % 100 - 1)) as u32
+}
+
+// The number YYYYMMDD of an ordinal; 0 for 36,525 and beyond.
+pub fn of_ordinal(n: u32) -> u32
+    ensures { λ r. ⌜ OfOrdinal n r ⌝ }
+{
+    if n >= 36525 {
+        return 0;
+    }
+    let w = n as u64;
+    let y = w * 4 / 1461;
+    let rest = w - (y * 365 + (y + 3) / 4);
+    let m = month_of(y, rest);
+    let months = before_month(y, m);
+    ((1980 + y) * 10000 + m * 100 + (rest - months) + 1) as u32
 }

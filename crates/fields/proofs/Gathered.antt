@@ -13,7 +13,8 @@ use Rattle.grammar.specs.declared.Key.{Key}
 use Rattle.records.proofs.Compared.{byte-at}
 use Rattle.records.specs.July.{recordSize}
 use Rattle.fields.specs.declared.Movement.{Movement}
-use Rattle.fields.specs.Rows.{noKey, noRow, keyAtOf, rowAtOf}
+use Rattle.fields.specs.declared.Valued.{Valued}
+use Rattle.fields.specs.Rows.{noKey, noRow, noValued, keyAtOf, rowAtOf, valuedAtOf}
 
 pub no-key : (b : List ℕ) → (length b ≡ recordSize → ⊥) → noKey ≡ keyAtOf b
 unfolding keyAtOf
@@ -22,6 +23,10 @@ no-key b h = rw (ne-eqb (length b) recordSize h)
 pub no-row : (b : List ℕ) (n : ℕ) → (length b ≡ recordSize → ⊥) → noRow ≡ rowAtOf b n
 unfolding rowAtOf
 no-row b n h = rw (ne-eqb (length b) recordSize h)
+
+pub no-valued : (b : List ℕ) → (length b ≡ recordSize → ⊥) → noValued ≡ valuedAtOf b
+unfolding valuedAtOf
+no-valued b h = rw (ne-eqb (length b) recordSize h)
 
 module _ (b : List ℕ) (l : length b ≡ recordSize) where
   pub key-is : {ba br cu ac : List ℕ} → ba ≡ part 3 7 b → br ≡ part 12 16 b → cu ≡ part 17 19 b → ac ≡ part 22 32 b
@@ -37,3 +42,8 @@ module _ (b : List ℕ) (l : length b ≡ recordSize) where
       (rowAtOf b n)
   unfolding rowAtOf
   row-is n p q r s t u v w x = rw (p, q, r, s, t, u, v, w, x, eq-eqb (length b) recordSize l, byte-at 88 b, byte-at 89 b)
+
+  pub valued-is : {va : ℕ} {am : ℤ} → va ≡ dayIn (dateOf (part 43 48 b)) → am ≡ valueIn (amountOf (part 91 104 b))
+      → _≡_ {A = Valued} (record { value = va; amount = am }) (valuedAtOf b)
+  unfolding valuedAtOf
+  valued-is p q = rw (p, q, eq-eqb (length b) recordSize l)

@@ -1,4 +1,4 @@
--- A record's key and a 04's row, by value.
+-- A record's key, a 04's row, and what a balance in value counts of a 04, by value.
 use mathlib.Core.List.{List}
 use Prim.Native.Nat.{ℕ}
 use lib.Dec.{eqb}
@@ -9,6 +9,7 @@ use Rattle.grammar.specs.declared.Key.{Key}
 use Rattle.grammar.specs.Record.{Posting}
 use Rattle.records.specs.July.{recordSize, keyIn, postingIn}
 use Rattle.fields.specs.declared.Movement.{Movement}
+use Rattle.fields.specs.declared.Valued.{Valued}
 
 -- a posting as a row, with the number of its complements
 abbrev pub rowOf : Posting → ℕ → Movement
@@ -27,6 +28,10 @@ rowOf p n =
       reference = p .reference;
       complements = n;
     }
+
+-- what a balance in value counts of a posting
+abbrev pub valuedOf : Posting → Valued
+valuedOf p = record { value = p .value; amount = p .amount }
 
 -- where there is no record every number and byte is 0
 abbrev pub noKey : Key
@@ -49,8 +54,14 @@ noRow =
       complements = 0;
     }
 
+abbrev pub noValued : Valued
+noValued = record { value = 0; amount = pos 0 }
+
 unfoldable pub keyAtOf : List ℕ → Key
 keyAtOf b = pick (eqb (length b) recordSize) (keyIn b) noKey
 
 unfoldable pub rowAtOf : List ℕ → ℕ → Movement
 rowAtOf b n = pick (eqb (length b) recordSize) (rowOf (postingIn b) n) noRow
+
+unfoldable pub valuedAtOf : List ℕ → Valued
+valuedAtOf b = pick (eqb (length b) recordSize) (valuedOf (postingIn b)) noValued

@@ -1,4 +1,4 @@
-// The fields of one record, by value: the account key, and a 04 as a row of a movement table.
+// The fields of one record, by value: the account key, a 04 as a row of a movement table, and what a balance in value counts of a 04.
 ghost use Prim.Native.Nat.{_<_};
 ghost use mathlib.Core.Path.{_≡_};
 ghost use lib.ListN.{length};
@@ -7,7 +7,7 @@ ghost use Rattle.dates.specs.Days.{dateOf};
 ghost use Rattle.amounts.specs.Amounts.{amountOf};
 ghost use Rattle.layouts.specs.Zone.{dayIn, valueIn};
 ghost use Rattle.fields.specs.Rows.{noRow};
-ghost use Rattle.fields.specs.Answers.{KeyAt, RowAt};
+ghost use Rattle.fields.specs.Answers.{KeyAt, RowAt, ValuedAt};
 use amounts::Amount;
 use dates::Date;
 use grammar::Key;
@@ -27,6 +27,12 @@ pub struct Movement {
     pub amount: i64,
     pub reference: [u8; 16],
     pub complements: u64,
+}
+
+// What a balance in value counts of a movement: its value date and its amount.
+pub struct Valued {
+    pub value: u32,
+    pub amount: i64,
 }
 
 // The key in a record. A record of another length than 120 has none: zero bytes.
@@ -134,5 +140,21 @@ pub fn row_at(r: &[u8], complements: u64) -> Movement
         amount: amount(&r[90..104]),
         reference,
         complements,
+    }
+}
+
+// The value date and the amount of a 04. A record of another length than 120 has none: both are 0.
+pub fn valued_at(r: &[u8]) -> Valued
+    ensures { λ m. ⌜ ValuedAt (now (r .entry)) m ⌝ }
+{
+    if r.len() != 120 {
+        return Valued {
+            value: 0,
+            amount: 0,
+        };
+    }
+    Valued {
+        value: day(&r[42..48]),
+        amount: amount(&r[90..104]),
     }
 }

@@ -60,7 +60,7 @@ module _ (x o : List ℕ) where
   account-tested l p q r s = rw (p, q, r, s) (sym (rw (eq-eqb (length o) recordSize l, getD-one o 19, getD-one x 13)))
 
 -- the account of a statement's 01
-account-value : (x : List ℕ) {f : Form} {h : List ℕ} {s : Statement} → Reads july f h (s ∷ []) → isAccount x (recordAtOf h 0) ≡ sameKey (s .key) (keyFrom x)
+pub account-value : (x : List ℕ) {f : Form} {h : List ℕ} {s : Statement} → Reads july f h (s ∷ []) → isAccount x (recordAtOf h 0) ≡ sameKey (s .key) (keyFrom x)
 unfolding isAccount
 account-value x {f} {h} r = rw (eq-eqb (length (recordAtOf h 0)) recordSize (opening-whole r), opening-there r .key)
 

@@ -9,6 +9,7 @@ pub mod Delivered
 pub mod Series
 pub mod Accounts
 pub mod Latest
+pub mod Holdings
 pub mod Promises
 pub mod Wrong
 pub mod One

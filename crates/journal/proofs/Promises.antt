@@ -18,6 +18,7 @@ use Rattle.journal.specs.Delivery.{Outcome, delivered, refused, outcomeO
 use Rattle.journal.specs.Answers.{answerOf}
 use Rattle.journal.specs.Promises.{Promise, Adds}
 use Rattle.journal.proofs.Delivered.{Stored, stored, unchanged}
+use Rattle.journal.proofs.Holdings.{sound-held, sound-reads, sound-account, sound-none}
 use Rattle.journal.proofs.Series.{answered, journal-summed}
 
 module _ (j : List ℕ) (h : soundIn j ≡ true) where
@@ -44,6 +45,10 @@ module _ (j : List ℕ) (h : soundIn j ≡ true) where
         summed = journal-summed g;
         entry = body-of-entry;
         no-entry = past-the-last;
+        held = sound-held j h;
+        reads = sound-reads j h;
+        account = sound-account j h;
+        no-body = sound-none j h;
       }
 
   pub adds : (f : Form) (b : List ℕ) → Adds j f b

@@ -1,10 +1,14 @@
 -- The contract of each public function: its one answer, the one final content of what is lent, and the answer as the paper gives it.
 use mathlib.Core.Path.{_≡_}
+use mathlib.Core.Bool.{Bool}
 use mathlib.Core.List.{List}
 use Prim.Native.Nat.{ℕ}
 use Rattle.framing.specs.declared.Form.{Form}
 use Rattle.journal.specs.Delivery.{Outcome, delivered, refused, outcomeOf, contentOf}
 use Rattle.journal.specs.Newest.{newestOf, newestPart}
+use Rattle.journal.specs.Holdings.{holdingOf, bodyIn, ofAccountIn}
+use Rattle.journal.specs.declared.Holding.{Holding}
+use Rattle.journal.specs.declared.Holding.the-variants as H
 use Rattle.journal.specs.declared.Found.{Found}
 use Rattle.journal.specs.declared.Found.the-variants as N
 use Rattle.journal.specs.declared.Found.the-variants.{InJournal, InFile}
@@ -36,6 +40,16 @@ paperNewest (InJournal x n) = record { number = 0; at = 0; source = 1; first = x
 paperNewest (InFile x n e) = record { number = 0; at = 0; source = 2; first = x; len = n; line-end = e }
 paperNewest (N.Refused n r) = record { number = n; at = r; source = 0; first = 0; len = 0; line-end = 0 }
 
+-- number and record, and how many are held; zero where the paper says zero
+pub record PaperHolding : Type 0 where
+  pub number : ℕ
+  pub at : ℕ
+  pub statements : ℕ
+
+abbrev pub paperHolding : Holding → PaperHolding
+paperHolding (H.Statements n) = record { number = 0; at = 0; statements = n }
+paperHolding (H.Refused n r) = record { number = n; at = r; statements = 0 }
+
 -- an outcome as the code answers it
 abbrev pub answerOf : Outcome → Delivery
 answerOf (delivered ss s h) = Done s h
@@ -53,3 +67,15 @@ pub record NewestPlace (j : List ℕ) (f : Form) (b x : List ℕ) (r : Found) : 
 -- newest
 pub record NewestPart (j : List ℕ) (f : Form) (b x r : List ℕ) : Type 0 where
   pub answer : r ≡ newestPart j f b x
+
+-- held
+pub record Holds (j : List ℕ) (r : Holding) : Type 0 where
+  pub answer : r ≡ holdingOf j
+
+-- body
+pub record BodyOf (j : List ℕ) (e : ℕ) (r : List ℕ) : Type 0 where
+  pub answer : r ≡ bodyIn j e
+
+-- of_account
+pub record OfAccount (x b : List ℕ) (r : Bool) : Type 0 where
+  pub answer : r ≡ ofAccountIn x b

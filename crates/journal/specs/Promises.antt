@@ -1,18 +1,21 @@
 -- What the journal promises to the crates above it, and all that they may use: the statements that a sound journal holds, and what a delivery adds.
 use mathlib.Core.Path.{_≡_}
-use mathlib.Core.Bool.{true}
-use mathlib.Core.List.{List, _++_}
+use mathlib.Core.Bool.{true, false}
+use mathlib.Core.List.{List, [], _∷_, _++_}
 use Prim.Native.Nat.{ℕ, _+_, _-_, _<_, _≤_}
+use lib.Dec.{eqb}
 use lib.ListN.{length, getD}
+use Rattle.zones.specs.Choice.{pick}
 use Rattle.framing.specs.declared.Form.{Form}
 use Rattle.framing.specs.Files.{All}
 use Rattle.grammar.specs.declared.Key.{Key}
+use Rattle.grammar.specs.Record.{sameKey}
 use Rattle.grammar.specs.Statements.{Statement}
 use Rattle.grammar.specs.Files.{Reads, Writable, statementsOf}
 use Rattle.grammar.specs.Parts.{nothing}
 use Rattle.records.specs.July.{july}
 use Rattle.readers.specs.declared.Place.the-variants as P
-use Rattle.bodies.specs.Bodies.{bodyOf}
+use Rattle.bodies.specs.Bodies.{plain, bodyOf}
 use Rattle.entries.specs.Entries.{mostEntries}
 use Rattle.journal_layout.specs.Chains.{Chained, ofAccount, Distinct}
 use Rattle.journal_layout.specs.Layout.{mostLines, linesOf}
@@ -21,6 +24,9 @@ use Rattle.journal.specs.declared.Delivery.the-variants.{Done, Refused}
 use Rattle.journal.specs.Delivery.{outcomeOf, contentOf}
 use Rattle.journal.specs.Answers.{answerOf}
 use Rattle.journal.specs.Arrivals.{arrivals, Summed}
+use Rattle.journal.specs.Newest.{keySize, keyFrom}
+use Rattle.journal.specs.Holdings.{holdingOf, bodyIn, ofAccountIn}
+use Rattle.journal.specs.declared.Holding.the-variants.{Statements}
 
 -- the journal j holds the statements ss
 pub record Promise (j : List ℕ) (ss : List Statement) : Type 0 where
@@ -35,6 +41,12 @@ pub record Promise (j : List ℕ) (ss : List Statement) : Type 0 where
   -- the body of entry e, from 1, is that of statement e; there is no other
   pub entry : (e : ℕ) → 0 < e → e ≤ length ss → entryBodyOf j e ≡ bodyOf (getD ss (e - 1) nothing)
   pub no-entry : (e : ℕ) → length ss < e → entryPlaceOf j e ≡ P.Refused 25 0
+  -- after one test: how many there are, what the body of entry e reads as, whose it is, and that there is no other
+  pub held : holdingOf j ≡ Statements (length ss)
+  pub reads : (e : ℕ) → 0 < e → e ≤ length ss → Reads july plain (bodyIn j e) (getD ss (e - 1) nothing ∷ [])
+  pub account : (x : List ℕ) (e : ℕ) → 0 < e → e ≤ length ss
+      → ofAccountIn x (bodyIn j e) ≡ pick (eqb (length x) keySize) (sameKey (getD ss (e - 1) nothing .key) (keyFrom x)) false
+  pub no-body : (e : ℕ) → length ss < e → bodyIn j e ≡ []
 
 -- a delivery without a refusal adds the statements that are new, in order of first arrival; a refused one changes nothing
 pub record Adds (j : List ℕ) (f : Form) (b : List ℕ) : Type 0 where

@@ -1,4 +1,4 @@
-// The journal: a file delivered to it, and the newest statement of an account. A dry run judges every statement and plans what to store; only a plan without a refusal is written.
+// The journal: a file delivered to it, the newest statement of an account, and what the crates above read of it. A dry run judges every statement and plans what to store; only a plan without a refusal is written.
 ghost use mathlib.Core.Path.{_≡_};
 ghost use mathlib.Core.Bool.{true};
 ghost use Prim.Native.Nat.{_+_, _*_, _<_, _≤_};
@@ -18,10 +18,11 @@ ghost use Rattle.journal_layout.specs.Test.{soundIn, heldOf};
 ghost use Rattle.journal.specs.declared.Found.the-variants.{Refused};
 ghost use Rattle.journal.specs.Newest.{keySize, keyFrom, newestAmong, newestOf, isAccount, lastHeldFrom, lastPart};
 ghost use Rattle.journal.specs.Plans.{partsFrom, Inside, judgedIn, judgedAll, verdictNumber, Reading, written, writtenAll, Accepts, donePlan, refusedPlan, Storable, Planned, Searchable, Finds};
-ghost use Rattle.journal.specs.Answers.{Delivers, NewestPlace, NewestPart};
+ghost use Rattle.journal.specs.Answers.{Delivers, NewestPlace, NewestPart, Holds, BodyOf, OfAccount};
 use framing::Form;
 use journal_layout::Free;
 use journal_layout::Judgement;
+use journal_layout::Usage;
 use statements::Checked;
 
 // How many statements were stored, and how many were held; or a refusal's number and record.
@@ -45,6 +46,12 @@ pub enum Found {
         number: u64,
         record: u64,
     },
+}
+
+// How many statements a sound journal holds; or a refusal's number and record.
+pub enum Holding {
+    Statements { count: u64 },
+    Refused { number: u64, record: u64 },
 }
 
 // The statements of a file that a delivery stores: where each begins and ends, and into which entry and from which line on. With its answer.
@@ -449,4 +456,38 @@ pub fn newest<'a>(journal: &'a [u8], form: Form, file: &'a [u8], key: &[u8]) -> 
             record: _,
         } => &journal[..0],
     }
+}
+
+// Whether a journal is sound, and how many statements it holds. Whoever has had this asks for bodies without another test.
+pub fn held(journal: &[u8]) -> Holding
+    ensures { λ r. ⌜ Holds (now (journal .entry)) r ⌝ }
+{
+    match journal_layout::used(journal) {
+        Usage::Counted {
+            entries,
+            used: _,
+            lines: _,
+        } => Holding::Statements { count: entries },
+        Usage::Refused { number, record } => Holding::Refused { number, record },
+    }
+}
+
+// The body of entry e, from 1, as a part of the journal: itself a file of one statement, without line ends. Empty where there is no such entry.
+pub fn body(journal: &[u8], e: u64) -> &[u8]
+    ensures { λ r. ⌜ BodyOf (now (journal .entry)) e (now r) ⌝ }
+{
+    if e == 0 {
+        return &journal[..0];
+    }
+    entries::body_at(journal, (e - 1) as usize)
+}
+
+// Whether the account of a body is the one that a key names.
+pub fn of_account(key: &[u8], body: &[u8]) -> bool
+    ensures { λ r. ⌜ OfAccount (now (key .entry)) (now (body .entry)) r ⌝ }
+{
+    if key.len() != 25 {
+        return false;
+    }
+    is_account(key, contents::record_at(body, 0))
 }
