@@ -17,7 +17,6 @@ use Rattle.contents.specs.Heads.{recordAtOf}
 use Rattle.bodies.specs.Bodies.{plain}
 use Rattle.bodies.proofs.Single.{body-reads}
 use Rattle.entries.specs.Entries.{tableSize, bodyAt, entryIn}
-use Rattle.journal_layout.specs.declared.Usage.{Usage}
 use Rattle.journal_layout.specs.declared.Usage.the-variants as U
 use Rattle.journal_layout.specs.Layout.{linesOf, Journal}
 use Rattle.journal_layout.specs.Test.{soundIn, heldOf, usageOf}

@@ -1,6 +1,5 @@
 // One 64-bit number as a whole answer, by `specs/Packing.antt`.
 ghost use mathlib.Core.Path.{_≡_};
-ghost use Prim.Native.Nat.{_<_};
 ghost use Rattle.packing.specs.Packing.{Fits, pack as packOf};
 ghost use Rattle.packing.specs.Answers.{Answered, Refuses};
 

@@ -1,0 +1,17 @@
+pub mod Group
+pub mod Tied
+pub mod Parts
+pub mod Bounds
+pub mod Rows
+pub mod Tables
+pub mod Spans
+pub mod Zones
+pub mod Account
+pub mod Loops
+pub mod Filling
+pub mod Asking
+pub mod Made
+pub mod Positioned
+pub mod Theorems
+pub mod Examples
+pub mod One

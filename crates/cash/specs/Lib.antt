@@ -1,0 +1,6 @@
+pub mod Value
+pub mod Spans
+pub mod Positions
+pub mod Buckets
+pub mod Calls
+pub mod Answers
