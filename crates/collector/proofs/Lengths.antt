@@ -6,6 +6,8 @@ use Prim.Native.Nat.{ℕ, _≤_}
 use native.Mathlib.Omega.{arith}
 use lib.ListN.{length}
 use Rattle.zones.specs.Choice.{pick}
+use Rattle.packing.specs.Packing.{kindIn}
+use Rattle.packing.proofs.Packing.{kind-back}
 use Rattle.framing.specs.declared.Frame.{Frame}
 use Rattle.framing.specs.declared.Frame.the-variants as F
 use Rattle.framing.specs.Files.{unknownEnd, uneven, tooMany}
@@ -18,10 +20,10 @@ use Rattle.records.specs.July.{recordSize, mostInFile, july}
 use Rattle.records.proofs.Theorems.{ruled}
 use Rattle.statements.specs.Answers.{checkedOf}
 use Rattle.statements.proofs.Framed.{framed}
-use Rattle.collector.specs.Packing.{kindIn, packedCheck, packedLength}
+use Rattle.collector.specs.Packing.{packedCheck, packedLength}
 use Rattle.collector.specs.Answers.{form, lengthAnswer, CheckNumber, LengthNumber}
 use Rattle.collector.proofs.Bounds.{length-bounds, applied}
-use Rattle.collector.proofs.Packing.{records-fits, kind-back}
+use Rattle.collector.proofs.Packing.{records-fits}
 
 module _ (e : ℕ) (b : List ℕ) where
   as-file : {r : Frame} → r ≡ lengthAnswer e (length b) → r ≡ frameOf (form e) recordSize mostInFile b

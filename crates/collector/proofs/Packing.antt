@@ -1,8 +1,10 @@
 -- A packed number holds its whole answer: the fields fit, and unpacking gives the paper's answer back. So two different answers have different numbers.
 use mathlib.Core.Path.{_≡_, refl, sym, ap, _∙_}
 use mathlib.Core.List.{List}
-use Prim.Native.Nat.{ℕ, _+_, _-_, _*_, _/_, _≤_}
+use Prim.Native.Nat.{ℕ, _-_, _*_, _/_, _≤_}
 use native.Mathlib.Omega.{arith}
+use Rattle.packing.specs.Packing.{Fits}
+use Rattle.packing.proofs.Packing.{a-back, b-back, c-back, kind-back}
 use Rattle.framing.specs.declared.Frame.{Frame}
 use Rattle.framing.specs.declared.Frame.the-variants as F
 use Rattle.records.specs.July.{recordSize, mostInFile}
@@ -22,38 +24,10 @@ use Rattle.journal_layout.specs.Test.{entryPlaceOf, usageOf}
 use Rattle.journal.specs.declared.Delivery.{Delivery}
 use Rattle.journal.specs.declared.Delivery.the-variants as D
 use Rattle.journal.specs.Answers.{paperDelivery}
-use Rattle.collector.specs.Packing.{bit20, bit40, pack, aIn, bIn, cIn, kindIn, Fits, packedCheck, packedOpening, packedDelivery, packedEntry, packedUsage, packedLength, checkedIn, openingIn, deliveryIn, placeIn, usageIn, lengthIn, paperLength}
+use Rattle.collector.specs.Packing.{packedCheck, packedOpening, packedDelivery, packedEntry, packedUsage, packedLength, checkedIn, openingIn, deliveryIn, placeIn, usageIn, lengthIn, paperLength}
 use Rattle.collector.specs.Bounds.{Refusal, Counted, Told, Body, Lines, Filled, CheckBounds, OpeningBounds, DeliveryBounds, EntryBounds, ListedBounds, UsageBounds, LengthBounds}
 use Rattle.collector.specs.Answers.{form, checkAnswer, openAnswer, deliverAnswer, listedAnswer, lengthAnswer, CheckNumber, OpenNumber, DeliverNumber, EntryNumber, UsedNumber, ListedNumber, LengthNumber}
 use Rattle.collector.proofs.Bounds.{check-bounds, opening-bounds, delivery-bounds, entry-bounds, listed-bounds, usage-bounds, length-bounds}
-
--- ---- the four fields
-
-module _ {kind a b c : ℕ} (f : Fits kind a b c) where
-  pub a-back : aIn (pack kind a b c) ≡ a
-  a-back = let p = f .a-fits in omega arith
-
-  pub b-back : bIn (pack kind a b c) ≡ b
-  b-back =
-      let p = f .a-fits in
-      let q = f .b-fits in
-      let z : pack kind a b c / bit20 ≡ b + bit20 * c + bit40 * kind = omega arith in
-      rw z (omega arith)
-
-  pub c-back : cIn (pack kind a b c) ≡ c
-  c-back =
-      let p = f .a-fits in
-      let q = f .b-fits in
-      let r = f .c-fits in
-      let z : pack kind a b c / bit40 ≡ c + bit20 * kind = omega arith in
-      rw z (omega arith)
-
-  pub kind-back : kindIn (pack kind a b c) ≡ kind
-  kind-back =
-      let p = f .a-fits in
-      let q = f .b-fits in
-      let r = f .c-fits in
-      omega arith
 
 -- ---- numbers within their bounds fit
 

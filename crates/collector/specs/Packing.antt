@@ -1,15 +1,10 @@
--- One number for a whole answer.
+-- The one number of each exported function's answer, by `packing`.
 --
---     bits   0 to 19 | 20 to 39 | 40 to 59 | 60 to 63
---            a       | b        | c        | kind
---
--- Kind 0, answered: the check's statements, movements and complements; opening all 0; the delivery's stored and held; an entry's number of
+-- What a, b and c are where it answered: the check's statements, movements and complements; opening all 0; the delivery's stored and held; an entry's number of
 -- records and first body line, listed or not; the entries used, the body lines used and those in all; the records of a file of some length.
--- Kind 1, refused: a is the record, b the refusal's number, c is 0.
-use mathlib.Core.Bool.{Bool}
-use Prim.Native.Nat.{ℕ, _+_, _-_, _*_, _/_, _%_, _<_}
-use lib.Dec.{eqb}
+use Prim.Native.Nat.{ℕ, _-_, _*_, _/_}
 use Rattle.zones.specs.Choice.{pick}
+use Rattle.packing.specs.Packing.{aIn, bIn, cIn, isAnswer, answered, refused}
 use Rattle.records.specs.July.{recordSize}
 use Rattle.framing.specs.declared.Frame.{Frame}
 use Rattle.framing.specs.declared.Frame.the-variants as F
@@ -24,45 +19,6 @@ use Rattle.journal_layout.specs.declared.Usage.{Usage}
 use Rattle.journal_layout.specs.declared.Usage.the-variants as U
 use Rattle.journal.specs.declared.Delivery.{Delivery}
 use Rattle.journal.specs.declared.Delivery.the-variants as D
-
--- the weights of bits 20, 40 and 60
-abbrev pub bit20 : ℕ
-bit20 = 1048576
-
-abbrev pub bit40 : ℕ
-bit40 = 1099511627776
-
-abbrev pub bit60 : ℕ
-bit60 = 1152921504606846976
-
-abbrev pub pack : (kind a b c : ℕ) → ℕ
-pack kind a b c = a + bit20 * b + bit40 * c + bit60 * kind
-
--- what a packed number holds
-abbrev pub aIn : ℕ → ℕ
-aIn n = n % bit20
-
-abbrev pub bIn : ℕ → ℕ
-bIn n = n / bit20 % bit20
-
-abbrev pub cIn : ℕ → ℕ
-cIn n = n / bit40 % bit20
-
-abbrev pub kindIn : ℕ → ℕ
-kindIn n = n / bit60
-
--- numbers that fit their bits
-pub record Fits (kind a b c : ℕ) : Type 0 where
-  pub kind-fits : kind < 16
-  pub a-fits : a < bit20
-  pub b-fits : b < bit20
-  pub c-fits : c < bit20
-
-abbrev pub answered : (a b c : ℕ) → ℕ
-answered a b c = pack 0 a b c
-
-abbrev pub refused : (number at : ℕ) → ℕ
-refused number at = pack 1 at number 0
 
 -- each answer's number
 abbrev pub packedCheck : Checked → ℕ
@@ -92,9 +48,6 @@ packedLength (F.Records w n) = answered n 0 0
 packedLength (F.Refused n) = refused n 0
 
 -- and back
-abbrev pub isAnswer : ℕ → Bool
-isAnswer n = eqb (kindIn n) 0
-
 abbrev pub checkedIn : ℕ → Checked
 checkedIn n = pick (isAnswer n) (C.Accepted (aIn n) (bIn n) (cIn n)) (C.Refused (bIn n) (aIn n))
 

@@ -1,6 +1,4 @@
 // What the collector's host program calls. Each function answers one number that holds its whole answer, by `specs/Packing.antt`.
-ghost use mathlib.Core.Path.{_≡_};
-ghost use Rattle.collector.specs.Packing.{Fits, pack as packOf, answered as answeredOf, refused as refusedOf};
 ghost use Rattle.collector.specs.Answers.{CheckNumber, OpenNumber, DeliverNumber, EntryNumber, UsedNumber, ListedNumber, LengthNumber};
 use framing::Form;
 use framing::Frame;
@@ -9,28 +7,6 @@ use journal_layout::Opening;
 use journal_layout::Usage;
 use readers::Place;
 use statements::Checked;
-
-// Bits 0 to 19 a, 20 to 39 b, 40 to 59 c, 60 to 63 the kind.
-fn pack(kind: u64, a: u64, b: u64, c: u64) -> u64
-    requires { ⌜ Fits kind a b c ⌝ }
-    ensures { λ r. ⌜ r ≡ packOf kind a b c ⌝ }
-{
-    a + 1048576 * b + 1099511627776 * c + 1152921504606846976 * kind
-}
-
-fn answered(a: u64, b: u64, c: u64) -> u64
-    requires { ⌜ Fits 0 a b c ⌝ }
-    ensures { λ r. ⌜ r ≡ answeredOf a b c ⌝ }
-{
-    pack(0, a, b, c)
-}
-
-fn refused(number: u64, record: u64) -> u64
-    requires { ⌜ Fits 1 «record» number 0 ⌝ }
-    ensures { λ r. ⌜ r ≡ refusedOf number «record» ⌝ }
-{
-    pack(1, record, number, 0)
-}
 
 // The numbers of statements, movements and complements of a file.
 #[no_mangle]
@@ -42,8 +18,8 @@ pub extern "C" fn crownhazel_check(line_end: u64, file: &[u8]) -> u64
             statements,
             movements,
             complements,
-        } => answered(statements, movements, complements),
-        Checked::Refused { number, record } => refused(number, record),
+        } => packing::answered(statements, movements, complements),
+        Checked::Refused { number, record } => packing::refused(number, record),
     }
 }
 
@@ -53,8 +29,8 @@ pub extern "C" fn crownhazel_open(journal: &mut [u8]) -> u64
     ensures { λ r. ⌜ OpenNumber (now (journal .entry)) r (now (journal .exit)) ⌝ }
 {
     match journal_layout::open(journal) {
-        Opening::Opened => answered(0, 0, 0),
-        Opening::Refused { number, record } => refused(number, record),
+        Opening::Opened => packing::answered(0, 0, 0),
+        Opening::Refused { number, record } => packing::refused(number, record),
     }
 }
 
@@ -64,8 +40,8 @@ pub extern "C" fn crownhazel_deliver(journal: &mut [u8], line_end: u64, file: &[
     ensures { λ r. ⌜ DeliverNumber (now (journal .entry)) «line_end» (now (file .entry)) r (now (journal .exit)) ⌝ }
 {
     match journal::deliver(journal, Form { line_end }, file) {
-        Delivery::Done { stored, held } => answered(stored, held, 0),
-        Delivery::Refused { number, record } => refused(number, record),
+        Delivery::Done { stored, held } => packing::answered(stored, held, 0),
+        Delivery::Refused { number, record } => packing::refused(number, record),
     }
 }
 
@@ -76,9 +52,9 @@ pub extern "C" fn crownhazel_entry(journal: &[u8], entry: u64) -> u64
 {
     match journal_layout::entry_place(journal, entry) {
         Place::At { first, len } => {
-            answered((len / 120) as u64, ((first - 7680) / 120) as u64, 0)
+            packing::answered((len / 120) as u64, ((first - 7680) / 120) as u64, 0)
         }
-        Place::Refused { number, record } => refused(number, record),
+        Place::Refused { number, record } => packing::refused(number, record),
     }
 }
 
@@ -92,8 +68,8 @@ pub extern "C" fn crownhazel_used(journal: &[u8]) -> u64
             entries,
             used,
             lines,
-        } => answered(entries, used, lines),
-        Usage::Refused { number, record } => refused(number, record),
+        } => packing::answered(entries, used, lines),
+        Usage::Refused { number, record } => packing::refused(number, record),
     }
 }
 
@@ -105,12 +81,12 @@ pub extern "C" fn crownhazel_listed(journal: &[u8], entry: u64, row: &mut [u8]) 
     match journal_layout::listed_place(journal, entry) {
         Place::At { first, len } => {
             if row.len() < 41 {
-                return refused(20, 0);
+                return packing::refused(20, 0);
             }
             entries::put_row(&mut row[0..41], journal, (entry - 1) as usize);
-            answered((len / 120) as u64, ((first - 7680) / 120) as u64, 0)
+            packing::answered((len / 120) as u64, ((first - 7680) / 120) as u64, 0)
         }
-        Place::Refused { number, record } => refused(number, record),
+        Place::Refused { number, record } => packing::refused(number, record),
     }
 }
 
@@ -120,7 +96,7 @@ pub extern "C" fn crownhazel_length(line_end: u64, length: u64) -> u64
     ensures { λ r. ⌜ LengthNumber «line_end» length r ⌝ }
 {
     match framing::cut_length(Form { line_end }, 120, 20000, length as usize) {
-        Frame::Records { width: _, count } => answered(count as u64, 0, 0),
-        Frame::Refused(number) => refused(number, 0),
+        Frame::Records { width: _, count } => packing::answered(count as u64, 0, 0),
+        Frame::Refused(number) => packing::refused(number, 0),
     }
 }

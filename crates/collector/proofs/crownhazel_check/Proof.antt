@@ -1,4 +1,5 @@
 use mathlib.Core.Path.{sym, ap, _∙_}
+use Rattle.packing.proofs.Packing.{answered-fits, refused-fits}
 use Rattle.collector.specs.Packing.{packedCheck}
 use Rattle.collector.proofs.Packing.{counted-fits, refusal-fits}
 use Rattle.collector.proofs.Calls.{checked}
@@ -13,19 +14,19 @@ enum-known-statements : tie.Need-enum-known-statements
 enum-known-statements c = search needs
 
 answered-requires : tie.Need-answered-requires
-answered-requires c κs = counted-fits (checked (c .before .before .before .before .before .args .line-end) (c .before .before .before .before .before .args .file .now) (sym (c .before .statements .given .1) ∙ c .before .before .before .check .ensures .answer))
+answered-requires c κs = search needs
 
 enum-known-number : tie.Need-enum-known-number
 enum-known-number c = search needs
 
 refused-requires : tie.Need-refused-requires
-refused-requires c κs = refusal-fits (checked (c .before .before .before .before .before .args .line-end) (c .before .before .before .before .before .args .file .now) (sym (c .before .number .given .1) ∙ c .before .before .before .check .ensures .answer))
+refused-requires c κs = search needs
 
 returns : tie.Need-returns
-returns c = record { answer = c .answered .ensures ∙ ap packedCheck (sym (c .before .before .statements .given .1) ∙ c .before .before .before .before .check .ensures .answer) }
+returns c = let p = sym (c .before .before .statements .given .1) ∙ c .before .before .before .before .check .ensures .answer in record { answer = c .answered .ensures .answer ∙ answered-fits (counted-fits (checked (c .before .before .before .before .before .before .args .line-end) (c .before .before .before .before .before .before .args .file .now) p)) ∙ ap packedCheck p }
 
 returns-2 : tie.Need-returns-2
-returns-2 c = record { answer = c .refused .ensures ∙ ap packedCheck (sym (c .before .before .number .given .1) ∙ c .before .before .before .before .check .ensures .answer) }
+returns-2 c = let p = sym (c .before .before .number .given .1) ∙ c .before .before .before .before .check .ensures .answer in record { answer = c .refused .ensures .answer ∙ refused-fits (refusal-fits (checked (c .before .before .before .before .before .before .args .line-end) (c .before .before .before .before .before .before .args .file .now) p)) ∙ ap packedCheck p }
 
 pub crownhazel-check-spec : {M : Type 1} → statement M
 crownhazel-check-spec =

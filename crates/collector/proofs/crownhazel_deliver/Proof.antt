@@ -1,4 +1,5 @@
 use mathlib.Core.Path.{sym, ap, _∙_}
+use Rattle.packing.proofs.Packing.{answered-fits, refused-fits}
 use Rattle.collector.specs.Packing.{packedDelivery}
 use Rattle.collector.proofs.Packing.{told-fits, refusal-fits}
 use Rattle.collector.proofs.Calls.{delivered}
@@ -13,25 +14,25 @@ enum-known-stored : tie.Need-enum-known-stored
 enum-known-stored c = search needs
 
 answered-requires : tie.Need-answered-requires
-answered-requires c κs = told-fits (delivered (c .before .before .before .before .before .before .before .before .before .args .journal .now) (c .before .before .before .before .before .before .before .before .before .args .line-end) (c .before .before .before .before .before .before .before .before .before .args .file .now) (sym (c .before .stored .given .1) ∙ c .before .before .before .before .before .deliver .ensures .answer))
+answered-requires c κs = search needs
 
 enum-known-number : tie.Need-enum-known-number
 enum-known-number c = search needs
 
 refused-requires : tie.Need-refused-requires
-refused-requires c κs = refusal-fits (delivered (c .before .before .before .before .before .before .before .before .before .args .journal .now) (c .before .before .before .before .before .before .before .before .before .args .line-end) (c .before .before .before .before .before .before .before .before .before .args .file .now) (sym (c .before .number .given .1) ∙ c .before .before .before .before .before .deliver .ensures .answer))
+refused-requires c κs = search needs
 
 same-length : tie.Need-same-length
 same-length c = search needs
 
 returns : tie.Need-returns
-returns c = record { answer = c .answered .ensures ∙ ap packedDelivery (sym (c .before .before .stored .given .1) ∙ c .before .before .before .before .before .before .deliver .ensures .answer); content = c .before .before .before .before .before .before .deliver .ensures .content }
+returns c = let p = sym (c .before .before .stored .given .1) ∙ c .before .before .before .before .before .before .deliver .ensures .answer in record { answer = c .answered .ensures .answer ∙ answered-fits (told-fits (delivered (c .before .before .before .before .before .before .before .before .before .before .args .journal .now) (c .before .before .before .before .before .before .before .before .before .before .args .line-end) (c .before .before .before .before .before .before .before .before .before .before .args .file .now) p)) ∙ ap packedDelivery p; content = c .before .before .before .before .before .before .deliver .ensures .content }
 
 same-length-2 : tie.Need-same-length-2
 same-length-2 c = search needs
 
 returns-2 : tie.Need-returns-2
-returns-2 c = record { answer = c .refused .ensures ∙ ap packedDelivery (sym (c .before .before .number .given .1) ∙ c .before .before .before .before .before .before .deliver .ensures .answer); content = c .before .before .before .before .before .before .deliver .ensures .content }
+returns-2 c = let p = sym (c .before .before .number .given .1) ∙ c .before .before .before .before .before .before .deliver .ensures .answer in record { answer = c .refused .ensures .answer ∙ refused-fits (refusal-fits (delivered (c .before .before .before .before .before .before .before .before .before .before .args .journal .now) (c .before .before .before .before .before .before .before .before .before .before .args .line-end) (c .before .before .before .before .before .before .before .before .before .before .args .file .now) p)) ∙ ap packedDelivery p; content = c .before .before .before .before .before .before .deliver .ensures .content }
 
 pub crownhazel-deliver-spec : {M : Type 1} → statement M
 crownhazel-deliver-spec =

@@ -1,5 +1,6 @@
 use native.Mathlib.Omega.{arith}
 use mathlib.Core.Path.{sym, ap, _∙_}
+use Rattle.packing.proofs.Packing.{answered-fits, refused-fits}
 use Rattle.collector.specs.Packing.{packedEntry}
 use Rattle.collector.proofs.Packing.{body-fits, refusal-fits}
 use Rattle.collector.proofs.Calls.{placed}
@@ -17,19 +18,19 @@ sub-answered : tie.Need-sub-answered
 sub-answered c = let k = placed (c .before .before .before .before .before .args .journal .now) (c .before .before .before .before .before .args .entry) (sym (c .before .first .given .1) ∙ c .before .before .before .entry-place .ensures .answer) in omega arith
 
 answered-requires : tie.Need-answered-requires
-answered-requires c κs = body-fits (placed (c .before .before .before .before .before .args .journal .now) (c .before .before .before .before .before .args .entry) (sym (c .before .first .given .1) ∙ c .before .before .before .entry-place .ensures .answer))
+answered-requires c κs = search needs
 
 enum-known-number : tie.Need-enum-known-number
 enum-known-number c = search needs
 
 refused-requires : tie.Need-refused-requires
-refused-requires c κs = refusal-fits (placed (c .before .before .before .before .before .args .journal .now) (c .before .before .before .before .before .args .entry) (sym (c .before .number .given .1) ∙ c .before .before .before .entry-place .ensures .answer))
+refused-requires c κs = search needs
 
 returns : tie.Need-returns
-returns c = record { answer = c .answered .ensures ∙ ap packedEntry (sym (c .before .before .first .given .1) ∙ c .before .before .before .before .entry-place .ensures .answer) }
+returns c = let p = sym (c .before .before .first .given .1) ∙ c .before .before .before .before .entry-place .ensures .answer in record { answer = c .answered .ensures .answer ∙ answered-fits (body-fits (placed (c .before .before .before .before .before .before .args .journal .now) (c .before .before .before .before .before .before .args .entry) p)) ∙ ap packedEntry p }
 
 returns-2 : tie.Need-returns-2
-returns-2 c = record { answer = c .refused .ensures ∙ ap packedEntry (sym (c .before .before .number .given .1) ∙ c .before .before .before .before .entry-place .ensures .answer) }
+returns-2 c = let p = sym (c .before .before .number .given .1) ∙ c .before .before .before .before .entry-place .ensures .answer in record { answer = c .refused .ensures .answer ∙ refused-fits (refusal-fits (placed (c .before .before .before .before .before .before .args .journal .now) (c .before .before .before .before .before .before .args .entry) p)) ∙ ap packedEntry p }
 
 pub crownhazel-entry-spec : {M : Type 1} → statement M
 crownhazel-entry-spec =

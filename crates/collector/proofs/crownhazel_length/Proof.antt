@@ -1,4 +1,5 @@
 use mathlib.Core.Path.{sym, ap, _∙_}
+use Rattle.packing.proofs.Packing.{answered-fits, refused-fits}
 use Rattle.collector.specs.Packing.{packedLength}
 use Rattle.collector.proofs.Packing.{records-fits, refusal-fits}
 use Rattle.collector.proofs.Calls.{measured}
@@ -13,19 +14,19 @@ enum-known-count : tie.Need-enum-known-count
 enum-known-count c = search needs
 
 answered-requires : tie.Need-answered-requires
-answered-requires c κs = records-fits (measured (c .before .before .before .before .args .line-end) (c .before .before .before .before .args .length) (sym (c .before .count .given .1) ∙ c .before .before .before .cut-length .ensures .answer))
+answered-requires c κs = search needs
 
 enum-known-number : tie.Need-enum-known-number
 enum-known-number c = search needs
 
 refused-requires : tie.Need-refused-requires
-refused-requires c κs = refusal-fits (measured (c .before .before .before .before .args .line-end) (c .before .before .before .before .args .length) (sym (c .before .number .given .1) ∙ c .before .before .before .cut-length .ensures .answer))
+refused-requires c κs = search needs
 
 returns : tie.Need-returns
-returns c = record { answer = c .answered .ensures ∙ ap packedLength (sym (c .before .before .count .given .1) ∙ c .before .before .before .before .cut-length .ensures .answer) }
+returns c = let p = sym (c .before .before .count .given .1) ∙ c .before .before .before .before .cut-length .ensures .answer in record { answer = c .answered .ensures .answer ∙ answered-fits (records-fits (measured (c .before .before .before .before .before .args .line-end) (c .before .before .before .before .before .args .length) p)) ∙ ap packedLength p }
 
 returns-2 : tie.Need-returns-2
-returns-2 c = record { answer = c .refused .ensures ∙ ap packedLength (sym (c .before .before .number .given .1) ∙ c .before .before .before .before .cut-length .ensures .answer) }
+returns-2 c = let p = sym (c .before .before .number .given .1) ∙ c .before .before .before .before .cut-length .ensures .answer in record { answer = c .refused .ensures .answer ∙ refused-fits (refusal-fits (measured (c .before .before .before .before .before .args .line-end) (c .before .before .before .before .before .args .length) p)) ∙ ap packedLength p }
 
 pub crownhazel-length-spec : {M : Type 1} → statement M
 crownhazel-length-spec =

@@ -1,5 +1,6 @@
 use native.Mathlib.Omega.{arith}
 use mathlib.Core.Path.{sym, ap, _∙_}
+use Rattle.packing.proofs.Packing.{answered-fits, refused-fits}
 use Rattle.collector.specs.Packing.{packedEntry}
 use Rattle.collector.proofs.Packing.{lines-fits, refusal-fits}
 use Rattle.collector.proofs.Calls.{listed}
@@ -18,7 +19,7 @@ refused-requires : tie.Need-refused-requires
 refused-requires c κs = search needs
 
 returns : tie.Need-returns
-returns c = let p = too-short (c .before .before .before .before .before .before .before .before .args .journal .now) (c .before .before .before .before .before .before .before .before .args .entry) (c .before .before .before .before .before .before .before .before .args .row .now) (sym (c .before .before .before .first .given .1) ∙ c .before .before .before .before .before .listed-place .ensures .answer) (c .before .if1 .taken) in record { answer = c .refused .ensures ∙ ap packedEntry p; content = refused-kept (c .before .before .before .before .before .before .before .before .args .journal .now) (c .before .before .before .before .before .before .before .before .args .entry) (c .before .before .before .before .before .before .before .before .args .row .now) p }
+returns c = let p = too-short (c .before .before .before .before .before .before .before .before .args .journal .now) (c .before .before .before .before .before .before .before .before .args .entry) (c .before .before .before .before .before .before .before .before .args .row .now) (sym (c .before .before .before .first .given .1) ∙ c .before .before .before .before .before .listed-place .ensures .answer) (c .before .if1 .taken) in record { answer = c .refused .ensures .answer ∙ refused-fits (search needs) ∙ ap packedEntry p; content = refused-kept (c .before .before .before .before .before .before .before .before .args .journal .now) (c .before .before .before .before .before .before .before .before .args .entry) (c .before .before .before .before .before .before .before .before .args .row .now) p }
 
 sub-put-row : tie.Need-sub-put-row
 sub-put-row c = search needs
@@ -39,22 +40,22 @@ sub-answered : tie.Need-sub-answered
 sub-answered c = let k = listed (c .before .before .before .before .before .before .before .before .before .before .before .args .journal .now) (c .before .before .before .before .before .before .before .before .before .before .before .args .entry) (sym (c .before .before .before .before .before .before .first .given .1) ∙ c .before .before .before .before .before .before .before .before .listed-place .ensures .answer) in omega arith
 
 answered-requires : tie.Need-answered-requires
-answered-requires c κs = lines-fits (listed (c .before .before .before .before .before .before .before .before .before .before .before .args .journal .now) (c .before .before .before .before .before .before .before .before .before .before .before .args .entry) (sym (c .before .before .before .before .before .before .first .given .1) ∙ c .before .before .before .before .before .before .before .before .listed-place .ensures .answer))
+answered-requires c κs = search needs
 
 enum-known-number : tie.Need-enum-known-number
 enum-known-number c = search needs
 
 refused-requires-2 : tie.Need-refused-requires-2
-refused-requires-2 c κs = refusal-fits (listed (c .before .before .before .before .before .before .args .journal .now) (c .before .before .before .before .before .before .args .entry) (sym (c .before .number .given .1) ∙ c .before .before .before .listed-place .ensures .answer))
+refused-requires-2 c κs = search needs
 
 same-length : tie.Need-same-length
 same-length c = search needs
 
 returns-2 : tie.Need-returns-2
-returns-2 c = record { answer = c .answered .ensures ∙ ap packedEntry (wide-enough (c .before .before .before .before .before .before .before .before .before .before .before .before .args .journal .now) (c .before .before .before .before .before .before .before .before .before .before .before .before .args .entry) (c .before .before .before .before .before .before .before .before .before .before .before .before .args .row .now) (sym (c .before .before .before .before .before .before .before .first .given .1) ∙ c .before .before .before .before .before .before .before .before .before .listed-place .ensures .answer) (c .before .before .before .before .before .if1 .left)); content = row-written (c .before .before .before .before .before .before .before .before .before .before .before .before .args .journal .now) (c .before .before .before .before .before .before .before .before .before .before .before .before .args .entry) (c .before .before .before .before .before .before .before .before .before .before .before .before .args .row .now) (sym (c .before .before .before .before .before .before .before .first .given .1) ∙ c .before .before .before .before .before .before .before .before .before .listed-place .ensures .answer) (c .before .before .before .before .before .if1 .left) (c .before .before .before .put-row .ensures) }
+returns-2 c = let p = sym (c .before .before .before .before .before .before .before .first .given .1) ∙ c .before .before .before .before .before .before .before .before .before .listed-place .ensures .answer in record { answer = c .answered .ensures .answer ∙ answered-fits (lines-fits (listed (c .before .before .before .before .before .before .before .before .before .before .before .before .args .journal .now) (c .before .before .before .before .before .before .before .before .before .before .before .before .args .entry) p)) ∙ ap packedEntry (wide-enough (c .before .before .before .before .before .before .before .before .before .before .before .before .args .journal .now) (c .before .before .before .before .before .before .before .before .before .before .before .before .args .entry) (c .before .before .before .before .before .before .before .before .before .before .before .before .args .row .now) p (c .before .before .before .before .before .if1 .left)); content = row-written (c .before .before .before .before .before .before .before .before .before .before .before .before .args .journal .now) (c .before .before .before .before .before .before .before .before .before .before .before .before .args .entry) (c .before .before .before .before .before .before .before .before .before .before .before .before .args .row .now) p (c .before .before .before .before .before .if1 .left) (c .before .before .before .put-row .ensures) }
 
 returns-3 : tie.Need-returns-3
-returns-3 c = let p = place-refused (c .before .before .before .before .before .before .before .args .journal .now) (c .before .before .before .before .before .before .before .args .entry) (c .before .before .before .before .before .before .before .args .row .now) (sym (c .before .before .number .given .1) ∙ c .before .before .before .before .listed-place .ensures .answer) in record { answer = c .refused2 .ensures ∙ ap packedEntry p; content = refused-kept (c .before .before .before .before .before .before .before .args .journal .now) (c .before .before .before .before .before .before .before .args .entry) (c .before .before .before .before .before .before .before .args .row .now) p }
+returns-3 c = let q = sym (c .before .before .number .given .1) ∙ c .before .before .before .before .listed-place .ensures .answer in let p = place-refused (c .before .before .before .before .before .before .before .args .journal .now) (c .before .before .before .before .before .before .before .args .entry) (c .before .before .before .before .before .before .before .args .row .now) q in record { answer = c .refused2 .ensures .answer ∙ refused-fits (refusal-fits (listed (c .before .before .before .before .before .before .before .args .journal .now) (c .before .before .before .before .before .before .before .args .entry) q)) ∙ ap packedEntry p; content = refused-kept (c .before .before .before .before .before .before .before .args .journal .now) (c .before .before .before .before .before .before .before .args .entry) (c .before .before .before .before .before .before .before .args .row .now) p }
 
 pub crownhazel-listed-spec : {M : Type 1} → statement M
 crownhazel-listed-spec =

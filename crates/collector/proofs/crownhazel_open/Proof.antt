@@ -1,4 +1,5 @@
 use mathlib.Core.Path.{sym, ap, _∙_}
+use Rattle.packing.proofs.Packing.{answered-fits, refused-fits}
 use Rattle.collector.specs.Packing.{packedOpening}
 use Rattle.collector.proofs.Packing.{refusal-fits}
 use Rattle.collector.proofs.Calls.{opened}
@@ -19,19 +20,19 @@ enum-known-number : tie.Need-enum-known-number
 enum-known-number c = search needs
 
 refused-requires : tie.Need-refused-requires
-refused-requires c κs = refusal-fits (opened (c .before .before .before .before .before .before .before .before .args .journal .now) (sym (c .before .number .given .1) ∙ c .before .before .before .before .before .«open» .ensures .answer))
+refused-requires c κs = search needs
 
 same-length : tie.Need-same-length
 same-length c = search needs
 
 returns : tie.Need-returns
-returns c = record { answer = c .answered .ensures ∙ ap packedOpening (sym (c .before .enum-told .given .1) ∙ c .before .before .before .before .before .«open» .ensures .answer); content = c .before .before .before .before .before .«open» .ensures .content }
+returns c = record { answer = c .answered .ensures .answer ∙ answered-fits (search needs) ∙ ap packedOpening (sym (c .before .enum-told .given .1) ∙ c .before .before .before .before .before .«open» .ensures .answer); content = c .before .before .before .before .before .«open» .ensures .content }
 
 same-length-2 : tie.Need-same-length-2
 same-length-2 c = search needs
 
 returns-2 : tie.Need-returns-2
-returns-2 c = record { answer = c .refused .ensures ∙ ap packedOpening (sym (c .before .before .number .given .1) ∙ c .before .before .before .before .before .before .«open» .ensures .answer); content = c .before .before .before .before .before .before .«open» .ensures .content }
+returns-2 c = let p = sym (c .before .before .number .given .1) ∙ c .before .before .before .before .before .before .«open» .ensures .answer in record { answer = c .refused .ensures .answer ∙ refused-fits (refusal-fits (opened (c .before .before .before .before .before .before .before .before .before .args .journal .now) p)) ∙ ap packedOpening p; content = c .before .before .before .before .before .before .«open» .ensures .content }
 
 pub crownhazel-open-spec : {M : Type 1} → statement M
 crownhazel-open-spec =
