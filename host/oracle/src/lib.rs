@@ -2,12 +2,13 @@
 //! seeded generators of test files.
 //!
 //! Written from the paper's rules alone. `check` holds the rules of a file, `writer` those of the
-//! values of a statement, `journal`, `contents` and `delivery` those of the journal; `read`,
-//! `listing` and `series` stand on them. Everything else makes files, values and series to try
-//! them on, and what it makes does not hang on a rule.
+//! values of a statement, `journal`, `contents` and `delivery` those of the journal, `cash` those
+//! of the balance in value; `read`, `listing` and `series` stand on them. Everything else makes
+//! files, values and series to try them on, and what it makes does not hang on a rule.
 
 pub mod answers;
 pub mod case_file;
+pub mod cash;
 pub mod check;
 pub mod contents;
 pub mod damage;

@@ -78,6 +78,18 @@ pub fn write_date(day: u64) -> Vec<u8> {
     format!("{:02}{:02}{:02}", rest + 1, month + 1, year).into_bytes()
 }
 
+/// The day as the number YYYYMMDD.
+pub fn date_number(day: u64) -> u64 {
+    let digits = write_date(day);
+    let two =
+        |first: usize| 10 * u64::from(digits[first] - b'0') + u64::from(digits[first + 1] - b'0');
+    let year = match two(4) {
+        yy @ 0..=79 => 2000 + yy,
+        yy => 1900 + yy,
+    };
+    10_000 * year + 100 * two(2) + two(0)
+}
+
 /// The day of a date that `write_date` gave; nothing for other bytes.
 pub fn read_date(bytes: &[u8]) -> Option<u64> {
     let text = std::str::from_utf8(bytes).ok()?;

@@ -1,5 +1,6 @@
 //! Hand-built files with answers derived from the text.
 
+mod cash;
 mod command;
 mod common;
 mod contents;
