@@ -9,6 +9,7 @@
 pub mod answers;
 pub mod case_file;
 pub mod cash;
+pub mod cash_cases;
 pub mod check;
 pub mod contents;
 pub mod damage;

@@ -6,6 +6,8 @@ use std::process::ExitCode;
 use std::sync::atomic::{AtomicU64, Ordering};
 use std::time::Instant;
 
+use oracle::cash::position;
+use oracle::cash_cases::{big_account, replay_positions};
 use oracle::check::check;
 use oracle::failure::failure;
 use oracle::listing::listing;
@@ -44,9 +46,14 @@ const USAGE: &str = "usage:
       the same with series
   oracle replay-tables SEED COUNT OUT
       the same with tables of movements, and with statements to write
+  oracle replay-positions SEED COUNT OUT
+      the same with balances in value
   oracle samples DIR
       the files of samples/
-  oracle time FILE LINE_END TIMES";
+  oracle time FILE LINE_END TIMES
+  oracle big-account LINES OUT
+      a journal that one account fills; says what to ask of it
+  oracle time-position JOURNAL KEY FIRST LAST TIMES";
 
 fn main() -> ExitCode {
     let arguments: Vec<String> = std::env::args().skip(1).collect();
@@ -83,6 +90,12 @@ fn run(arguments: &[&str]) -> io::Result<()> {
         ["replay-checks", seed, count, out] => replay(replay_checks, seed, count, out),
         ["replay-series", seed, count, out] => replay(replay_series, seed, count, out),
         ["replay-tables", seed, count, out] => replay(replay_tables, seed, count, out),
+        ["replay-positions", seed, count, out] => replay(replay_positions, seed, count, out),
+        ["big-account", lines, out] => print_lines(&[big_account(number(lines)?, Path::new(out))?]),
+        ["time-position", journal, key, first, last, times] => {
+            let span = (number(first)?, number(last)?);
+            print_lines(&[time_position(journal, key, span, number(times)?)?])
+        }
         ["series", ..] | ["series-kept", ..] | ["series-big", ..] => run_series(arguments),
         _ => run_reader(arguments),
     }
@@ -195,4 +208,25 @@ fn time(file: &str, line_end: u64, times: u64) -> io::Result<String> {
     Ok(format!(
         "{by_record:.1} ns per record, {records} records, best of {times}, {answer}"
     ))
+}
+
+/// The best and the median time of a position on a journal in memory, in nanoseconds.
+fn time_position(journal: &str, key: &str, span: (u64, u64), times: u64) -> io::Result<String> {
+    let journal = std::fs::read(journal)?;
+    let mut table = [0; 400];
+    let mut elapsed = Vec::new();
+    // Loaded anew in each turn, so that the compiler leaves none out.
+    let (first, last) = (AtomicU64::new(span.0), span.1);
+    for _ in 0..times {
+        let first = first.load(Ordering::SeqCst);
+        let start = Instant::now();
+        let answer = position(&journal, key.as_bytes(), first, last, &mut table);
+        elapsed.push(start.elapsed().as_nanos());
+        answer.map_err(|refusal| failure(format!("refused with {}", refusal.number)))?;
+    }
+    elapsed.sort_unstable();
+    match (elapsed.first(), elapsed.get(elapsed.len() / 2)) {
+        (Some(best), Some(median)) => Ok(format!("best {best} ns, median {median} ns, of {times}")),
+        _ => Err(failure("nothing to time")),
+    }
 }

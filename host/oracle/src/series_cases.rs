@@ -3,7 +3,7 @@
 //! Only what a case tries is said here; what its operations answer is left to the runner. The
 //! damaged journals are the exception: each damage says whether it leaves the journal sound.
 
-mod accounts;
+pub mod accounts;
 mod asking;
 mod damaged;
 mod deliveries;

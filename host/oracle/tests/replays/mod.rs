@@ -37,7 +37,8 @@ pub fn path(name: &str) -> PathBuf {
     PathBuf::from(env!("CARGO_TARGET_TMPDIR")).join(name)
 }
 
-fn oracle(arguments: &[&str]) -> Output {
+/// Runs the command.
+pub fn oracle(arguments: &[&str]) -> Output {
     let mut command = Command::new(env!("CARGO_BIN_EXE_oracle"));
     command.args(arguments).output().unwrap()
 }
