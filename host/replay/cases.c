@@ -11,7 +11,9 @@
 
 enum {
     GUARD = 1 << 16, /* bytes after a lent slice that nobody may touch */
-    MOST_SHOWN = 20  /* differences printed */
+    PAGE = 1 << 16,
+    MARGIN = 128,   /* bytes before a loan that are looked at too */
+    MOST_SHOWN = 20 /* differences printed */
 };
 
 static uint64_t passed, failed, shown;
@@ -121,6 +123,40 @@ bool begin_difference(const struct place *place) {
     shown++;
     print_place(place);
     return true;
+}
+
+struct loan new_loan(const char *name, size_t room) {
+    return (struct loan){name, new_shelf(room + PAGE), {NULL, 0}, new_memory(room + PAGE)};
+}
+
+void fill(uint8_t *first, size_t length) {
+    for (size_t i = 0; i < length; i++) {
+        first[i] = (uint8_t)(0xA5 ^ i * 29 ^ i >> 8);
+    }
+}
+
+void lend_filled(struct loan *loan, size_t length) {
+    loan->slice = lend(loan->shelf, length);
+    fill(loan->slice.first, length);
+}
+
+void keep(struct loan *loan) {
+    uint8_t *margin = loan->slice.first - MARGIN;
+    fill(margin, MARGIN);
+    memcpy(loan->copy, margin, MARGIN + loan->slice.length);
+}
+
+bool is_untouched(const struct place *place, const struct loan *loan, size_t written) {
+    const uint8_t *came = loan->slice.first - MARGIN;
+    size_t after = MARGIN + written;
+    size_t length = loan->slice.length - written;
+    if (memcmp(came, loan->copy, MARGIN) == 0 && memcmp(came + after, loan->copy + after, length) == 0) {
+        return true;
+    }
+    if (begin_difference(place)) {
+        printf("%s: bytes changed that were to stay\n", loan->name);
+    }
+    return false;
 }
 
 static void on_signal(int signal) {

@@ -67,6 +67,26 @@ struct place {
 /* True as long as differences are to be printed; then it has printed where this one is. */
 bool begin_difference(const struct place *place);
 
+/* Something to lend, and its bytes as they were before a call: first those of a margin before the slice. */
+struct loan {
+    const char *name;
+    struct shelf shelf;
+    struct slice slice;
+    uint8_t *copy;
+};
+
+struct loan new_loan(const char *name, size_t room);
+
+/* Bytes that differ from place to place, so that nothing moves unseen. */
+void fill(uint8_t *first, size_t length);
+void lend_filled(struct loan *loan, size_t length);
+
+/* Remembers what a call may not touch. */
+void keep(struct loan *loan);
+
+/* Whether all is as it was but so many bytes at the start. */
+bool is_untouched(const struct place *place, const struct loan *loan, size_t written);
+
 /* Runs one case; true where nothing differs. */
 typedef bool run_case(struct source *source, struct place *place);
 

@@ -18,64 +18,17 @@ enum {
     MOST_FILE = 1 << 22,        /* bytes of a file in a case */
     MOST_ROWS = 1 << 14,        /* rows of a table */
     MOST_COMPLEMENTS = 1 << 20, /* bytes of complements */
-    MOST_OUT = 1 << 21,         /* bytes of an output */
-    PAGE = 1 << 16,
-    MARGIN = 128 /* bytes before a lent slice that are looked at too */
+    MOST_OUT = 1 << 21          /* bytes of an output */
 };
 
 _Static_assert(sizeof(struct key) == 25 && sizeof(struct head) == 56 && sizeof(struct movement) == 96, "x86-64");
 _Static_assert(__BYTE_ORDER__ == __ORDER_LITTLE_ENDIAN__, "numbers of a case are read as they stand");
-
-/* Something to lend, and its bytes as they were before a call: first those of the margin. */
-struct loan {
-    const char *name;
-    struct shelf shelf;
-    struct slice slice;
-    uint8_t *copy;
-};
 
 static struct loan files, tables, complements, outs;
 
 /* What is expected in a table and in an output. */
 static struct movement *rows;
 static struct shelf records;
-
-static struct loan new_loan(const char *name, size_t room) {
-    return (struct loan){name, new_shelf(room + PAGE), {NULL, 0}, new_memory(room + PAGE)};
-}
-
-/* Bytes that differ from place to place, so that nothing moves unseen. */
-static void fill(uint8_t *first, size_t length) {
-    for (size_t i = 0; i < length; i++) {
-        first[i] = (uint8_t)(0xA5 ^ i * 29 ^ i >> 8);
-    }
-}
-
-static void lend_filled(struct loan *loan, size_t length) {
-    loan->slice = lend(loan->shelf, length);
-    fill(loan->slice.first, length);
-}
-
-/* Remembers what a call may not touch. */
-static void keep(struct loan *loan) {
-    uint8_t *margin = loan->slice.first - MARGIN;
-    fill(margin, MARGIN);
-    memcpy(loan->copy, margin, MARGIN + loan->slice.length);
-}
-
-/* Whether all is as it was but so many bytes at the start. */
-static bool is_untouched(const struct place *place, const struct loan *loan, size_t written) {
-    const uint8_t *came = loan->slice.first - MARGIN;
-    size_t after = MARGIN + written;
-    size_t length = loan->slice.length - written;
-    if (memcmp(came, loan->copy, MARGIN) == 0 && memcmp(came + after, loan->copy + after, length) == 0) {
-        return true;
-    }
-    if (begin_difference(place)) {
-        printf("%s: bytes changed that were to stay\n", loan->name);
-    }
-    return false;
-}
 
 /* Refusal, record, and the number of rows or bytes. */
 struct answer {
