@@ -300,7 +300,8 @@ static void describe_option(FILE *out, const struct option_form *form) {
     }
 }
 
-static void write_subcommand_help(FILE *out, const struct subcommand *subcommand) {
+static void write_subcommand_help(FILE *out, const void *what) {
+    const struct subcommand *subcommand = what;
     char shown[32];
     fprintf(out, "usage: crownhazel %s", subcommand->name);
     for (int i = 0; i < OPTIONS; i++) {
@@ -318,8 +319,9 @@ static void write_subcommand_help(FILE *out, const struct subcommand *subcommand
     fprintf(out, "\n%s", status_text);
 }
 
-static void write_command_help(FILE *out) {
+static void write_command_help(FILE *out, const void *what) {
     char form[48];
+    (void)what;
     fprintf(out, "usage: crownhazel SUBCOMMAND ..\n%s\n", command_text);
     for (size_t i = 0; i < sizeof subcommands / sizeof subcommands[0]; i++) {
         snprintf(form, sizeof form, "%s %s", subcommands[i].name, subcommands[i].operands);
@@ -331,18 +333,5 @@ static void write_command_help(FILE *out) {
 }
 
 int print_help(const struct subcommand *subcommand) {
-    char *text = NULL;
-    size_t length = 0;
-    FILE *out = open_memstream(&text, &length);
-    if (out == NULL) {
-        return failed("help", "no memory");
-    }
-    if (subcommand != NULL) {
-        write_subcommand_help(out, subcommand);
-    } else {
-        write_command_help(out);
-    }
-    int status = fclose(out) == 0 ? answer_text(text, length) : failed("help", "no memory");
-    free(text);
-    return status;
+    return answer_with("help", subcommand == NULL ? write_command_help : write_subcommand_help, subcommand);
 }

@@ -1,3 +1,4 @@
+#define _GNU_SOURCE
 #include "bytes.h"
 
 #include <errno.h>
@@ -92,6 +93,23 @@ bool close_after(bool good, int descriptor) {
         errno = before;
     }
     return good && closed;
+}
+
+bool take_text(text_writer *writer, const void *what, struct bytes *text) {
+    char *first = NULL;
+    size_t length = 0;
+    FILE *out = open_memstream(&first, &length);
+    if (out == NULL) {
+        return false;
+    }
+    writer(out, what);
+    bool good = !ferror(out);
+    good = fclose(out) == 0 && good;
+    *text = (struct bytes){.first = (uint8_t *)first, .length = length, .room = length};
+    if (!good) {
+        let_go(text);
+    }
+    return good;
 }
 
 void let_go(struct bytes *bytes) {

@@ -5,6 +5,7 @@
 #include <stdbool.h>
 #include <stddef.h>
 #include <stdint.h>
+#include <stdio.h>
 
 /* Begins as all zeros, ends with let_go. */
 struct bytes {
@@ -31,6 +32,12 @@ bool write_whole(int descriptor, const void *first, size_t length);
 
 /* Closes, and hands on what an earlier step said: false stays false, with its errno. */
 bool close_after(bool good, int descriptor);
+
+/* What writes a text, of whatever it is handed. */
+typedef void text_writer(FILE *out, const void *what);
+
+/* Takes the whole text that is written. */
+bool take_text(text_writer *writer, const void *what, struct bytes *text);
 
 void let_go(struct bytes *bytes);
 

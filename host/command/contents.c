@@ -2,6 +2,10 @@
 
 #include <string.h>
 
+#include "journal.h"
+#include "say.h"
+#include "status.h"
+
 uint64_t read_contents(const struct bytes *journal, struct contents *contents) {
     uint64_t used = crownhazel_used(journal->first, journal->length);
     if (crownhazel_is_refused(used)) {
@@ -19,21 +23,50 @@ uint64_t read_contents(const struct bytes *journal, struct contents *contents) {
     return used;
 }
 
+/* No lock: the file is read as a whole, and a delivery puts another one in its place. */
+int look_into(const char *name, struct bytes *journal, struct contents *contents) {
+    struct place place;
+    int status = find_existing_journal(name, &place);
+    if (status != STATUS_DONE) {
+        return status;
+    }
+    status = read_journal(&place, journal);
+    leave_place(&place);
+    if (status != STATUS_DONE) {
+        return status;
+    }
+    uint64_t used = read_contents(journal, contents);
+    if (crownhazel_is_refused(used)) {
+        status = refused_by(name, used, name, lines_of(journal));
+        let_go(journal);
+    }
+    return status;
+}
+
 static bool same_account(const struct entry *one, const struct entry *other) {
     return memcmp(one->row, other->row, ROW_KEY) == 0;
 }
 
-/* Each account counts where it comes first. */
-size_t accounts_in(const struct contents *contents) {
-    size_t accounts = 0;
-    for (size_t i = 0; i < contents->count; i++) {
-        size_t before = 0;
-        while (before < i && !same_account(&contents->entries[before], &contents->entries[i])) {
-            before++;
-        }
-        accounts += before == i;
+/* The account of an entry, which is a new one where none has its key. */
+static struct account *account_of(const struct contents *contents, size_t entry, struct accounts *accounts) {
+    size_t at = 0;
+    while (at < accounts->count &&
+           !same_account(&contents->entries[accounts->list[at].first], &contents->entries[entry])) {
+        at++;
     }
-    return accounts;
+    if (at == accounts->count) {
+        accounts->list[accounts->count++] = (struct account){.first = entry};
+    }
+    return &accounts->list[at];
+}
+
+void find_accounts(const struct contents *contents, struct accounts *accounts) {
+    accounts->count = 0;
+    for (size_t i = 0; i < contents->count; i++) {
+        struct account *account = account_of(contents, i, accounts);
+        account->last = i;
+        account->statements++;
+    }
 }
 
 static bool same_body(const struct bytes *journal, const struct entry *entry, const struct bytes *other,

@@ -37,8 +37,23 @@ struct contents {
 /* Tests a journal, once, and takes what it holds. Answers the library's number: a refusal where it is not sound. */
 uint64_t read_contents(const struct bytes *journal, struct contents *contents);
 
-/* The number of accounts among the entries. */
-size_t accounts_in(const struct contents *contents);
+/* Reads a journal, tests it and takes what it holds. Its bytes are the caller's to let go. Answers a status, with a
+ * message where it is not STATUS_DONE; then there is nothing to let go. */
+int look_into(const char *name, struct bytes *journal, struct contents *contents);
+
+/* An account: its first and its last entry, counted from 0, and how many it has. */
+struct account {
+    size_t first, last;
+    size_t statements;
+};
+
+/* The accounts among the entries, in order of first arrival. */
+struct accounts {
+    struct account list[CROWNHAZEL_MOST_ENTRIES];
+    size_t count;
+};
+
+void find_accounts(const struct contents *contents, struct accounts *accounts);
 
 /* How many statements one journal holds that another does not. Both are sound. */
 size_t lacking(const struct bytes *journal, const struct contents *contents, const struct bytes *other,

@@ -9,6 +9,7 @@
 #include <strings.h>
 #include <unistd.h>
 
+#include "fresh.h"
 #include "journal.h"
 #include "say.h"
 #include "sha256.h"
@@ -16,54 +17,13 @@
 
 enum { MOST_CHECKSUM_FILE = 8192 };
 
+/* What is left where a copy could not be written. */
+static const char no_copy[] = "there is no copy";
+
 /* NULL where there is no memory. */
 static char *checksum_path(const struct place *copy) {
     char *path = NULL;
     return asprintf(&path, "%s" CHECKSUM_ENDING, copy->path) < 0 ? NULL : path;
-}
-
-static int exists_already(const char *name, const char *path) {
-    complain(name, "%s exists already and stays as it is; take another name", path);
-    return STATUS_USAGE;
-}
-
-/* Writes to a temporary file of a name that nobody else has. Its path where it is on the disk, else NULL with errno. */
-static char *write_temporary(const char *folder, const char *path, const struct bytes *bytes) {
-    char *temporary = NULL;
-    if (asprintf(&temporary, "%s/.%s.XXXXXX" TEMPORARY_ENDING, folder, last_part(path)) < 0) {
-        return NULL;
-    }
-    int descriptor = mkostemps(temporary, (int)strlen(TEMPORARY_ENDING), O_CLOEXEC);
-    if (descriptor >= 0 &&
-        close_after(give_mode(descriptor, RIGHTS_PRIVATE) && write_to_disk(descriptor, bytes), descriptor)) {
-        return temporary;
-    }
-    int error = errno;
-    if (descriptor >= 0) {
-        unlink(temporary);
-    }
-    free(temporary);
-    errno = error;
-    return NULL;
-}
-
-/* A new file with these bytes, by a link, which fails where the name is taken. */
-static int write_new(const struct place *copy, const char *path, const struct bytes *bytes) {
-    char *temporary = write_temporary(copy->folder, path, bytes);
-    bool linked = temporary != NULL && link(temporary, path) == 0;
-    int error = errno;
-    if (temporary != NULL) {
-        unlink(temporary);
-        free(temporary);
-    }
-    if (linked) {
-        return STATUS_DONE;
-    }
-    if (temporary != NULL && error == EEXIST) {
-        return exists_already(copy->name, path);
-    }
-    complain(copy->name, "%s cannot be written: %s; there is no copy", path, strerror(error));
-    return STATUS_SYSTEM;
 }
 
 /* A line of sha256sum. Where the name has backslashes or ends of lines these are spelt, behind a backslash in front. */
@@ -90,11 +50,11 @@ static bool compose_line(const char *digits, const char *name, struct bytes *lin
  * the disk both go again, so that the same call can be made again. */
 static int write_both(const struct place *copy, const struct bytes *journal, const char *path,
                       const struct bytes *line) {
-    int status = write_new(copy, copy->path, journal);
+    int status = write_new(copy, copy->path, journal, no_copy);
     if (status != STATUS_DONE) {
         return status;
     }
-    status = write_new(copy, path, line);
+    status = write_new(copy, path, line, no_copy);
     if (status == STATUS_DONE) {
         status = sync_folder(copy);
         if (status != STATUS_DONE) {

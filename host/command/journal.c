@@ -123,8 +123,8 @@ static int write_fresh(const struct place *place, const struct bytes *journal, c
     return -1;
 }
 
-static int not_written(const struct place *place, const char *left) {
-    complain(place->name, "%s cannot be written: %s; %s", place->fresh_path, strerror(errno), left);
+int not_written(const struct place *place, const char *path, const char *left) {
+    complain(place->name, "%s cannot be written: %s; %s", path, strerror(errno), left);
     return STATUS_SYSTEM;
 }
 
@@ -173,10 +173,10 @@ int settle_journal(const struct place *place) {
  * answer. */
 static int put_fresh(struct place *place, int fresh) {
     if (!is_still_there(place) || !names_file(place->fresh_path, fresh)) {
-        return errno == 0 ? not_the_same(place) : not_written(place, as_it_was);
+        return errno == 0 ? not_the_same(place) : not_written(place, place->fresh_path, as_it_was);
     }
     if (rename(place->fresh_path, place->path) != 0) {
-        return not_written(place, as_it_was);
+        return not_written(place, place->fresh_path, as_it_was);
     }
     place->replaced = true;
     share_lock(place, fresh);
@@ -192,7 +192,7 @@ int replace_journal(struct place *place, const struct bytes *journal, const mode
     }
     int fresh = write_fresh(place, journal, mode);
     if (fresh < 0) {
-        return not_written(place, as_it_was);
+        return not_written(place, place->fresh_path, as_it_was);
     }
     int status = put_fresh(place, fresh);
     if (!place->replaced) {
@@ -222,7 +222,7 @@ static bool give_name(const struct place *place, int fresh) {
  * sure to be on the disk it goes again, so that the same call can be made again. */
 static int link_fresh(struct place *place, int fresh) {
     if (!give_name(place, fresh)) {
-        return errno == EEXIST ? STATUS_USAGE : not_written(place, none_yet);
+        return errno == EEXIST ? STATUS_USAGE : not_written(place, place->fresh_path, none_yet);
     }
     share_lock(place, fresh);
     int status = sync_folder(place);
@@ -235,7 +235,7 @@ static int link_fresh(struct place *place, int fresh) {
 int create_journal(struct place *place, const struct bytes *journal, mode_t mode) {
     int fresh = write_fresh(place, journal, &mode);
     if (fresh < 0) {
-        return not_written(place, none_yet);
+        return not_written(place, place->fresh_path, none_yet);
     }
     int status = link_fresh(place, fresh);
     remove_fresh(place, fresh);

@@ -39,4 +39,7 @@ bool write_to_disk(int descriptor, const struct bytes *bytes);
 /* Brings the names in the folder to the disk, which was opened before. */
 int sync_folder(const struct place *place);
 
+/* Says that a file cannot be written, why, and what is left. Answers STATUS_SYSTEM. */
+int not_written(const struct place *place, const char *path, const char *left);
+
 #endif

@@ -9,7 +9,6 @@
 #include <string.h>
 #include <unistd.h>
 
-#include "bytes.h"
 #include "crownhazel.h"
 #include "spelling.h"
 #include "status.h"
@@ -80,6 +79,13 @@ int refused(const char *name, uint32_t number, uint32_t record) {
     return status_of_refusal(number);
 }
 
+int refused_for(const char *name, uint64_t answer, const char *why) {
+    uint32_t number = crownhazel_refusal(answer);
+    complain(name, "refused with %" PRIu32 " at record %" PRIu32 ": %s; %s", number, crownhazel_record(answer),
+             crownhazel_words(number), why);
+    return status_of_refusal(number);
+}
+
 #define KEEP_IT                                                                                                        \
     "keep it, deliver nothing to another journal that may have been delivered before (it would be stored again), "     \
     "and ask a person"
@@ -98,15 +104,14 @@ static const char *advice(uint32_t number, size_t lines) {
 }
 
 int refused_by(const char *name, uint64_t answer, const char *journal, size_t lines) {
-    uint32_t number = crownhazel_refusal(answer);
-    uint32_t record = crownhazel_record(answer);
-    const char *what_to_do = advice(number, lines);
-    if (what_to_do == NULL) {
-        return refused(name, number, record);
+    char *why = NULL;
+    const char *what_to_do = advice(crownhazel_refusal(answer), lines);
+    if (what_to_do == NULL || asprintf(&why, "journal %s: %s", journal, what_to_do) < 0) {
+        return refused(name, crownhazel_refusal(answer), crownhazel_record(answer));
     }
-    complain(name, "refused with %" PRIu32 " at record %" PRIu32 ": %s; journal %s: %s", number, record,
-             crownhazel_words(number), journal, what_to_do);
-    return status_of_refusal(number);
+    int status = refused_for(name, answer, why);
+    free(why);
+    return status;
 }
 
 int answer_text(const void *text, size_t length) {
@@ -122,6 +127,16 @@ int answer(const char *name, const char *format, ...) {
     va_end(values);
     int status = line != NULL ? answer_text(line, strlen(line)) : failed(name, "no answer");
     free(line);
+    return status;
+}
+
+int answer_with(const char *name, text_writer *writer, const void *what) {
+    struct bytes text;
+    if (!take_text(writer, what, &text)) {
+        return failed(name, "no memory for the answer");
+    }
+    int status = answer_text(text.first, text.length);
+    let_go(&text);
     return status;
 }
 

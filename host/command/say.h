@@ -7,6 +7,8 @@
 #include <stddef.h>
 #include <stdint.h>
 
+#include "bytes.h"
+
 /* 'crownhazel: NAME: ..' on standard error. */
 __attribute__((format(printf, 2, 3))) void complain(const char *name, const char *format, ...);
 
@@ -16,6 +18,9 @@ int failed(const char *name, const char *what);
 /* A refusal: number, record and the words of the list. Answers its status. */
 int refused(const char *name, uint32_t number, uint32_t record);
 
+/* The same, and what is to be said of it beside. */
+int refused_for(const char *name, uint64_t answer, const char *why);
+
 /* The same for a refusal that a journal of so many body lines has a part in, and what to do about it. */
 int refused_by(const char *name, uint64_t answer, const char *journal, size_t lines);
 
@@ -24,6 +29,9 @@ __attribute__((format(printf, 2, 3))) int answer(const char *name, const char *f
 
 /* Text as it is on standard output. Answers as above. */
 int answer_text(const void *text, size_t length);
+
+/* A text that is written for it, on standard output in one piece. Answers as above; the name is for a message. */
+int answer_with(const char *name, text_writer *writer, const void *what);
 
 /* Between these two what is said on standard error is kept and not written: whoever holds a lock waits for no reader.
  */
