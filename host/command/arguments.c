@@ -31,6 +31,11 @@ static const struct option_form options[] = {
     {OPTION_WAIT, "wait", "SECONDS",
      "gives up after so many seconds where another command\n"
      "holds the journal, for each file; without it, waits as\nlong as it takes"},
+    {OPTION_WHOLE, "whole", NULL, "amounts as whole numbers of the last decimal place"},
+    {OPTION_SVG, "svg", "FILE",
+     "draws it too, to this file. It may be an older picture of\n"
+     "the command's; any other file that exists stays"},
+    {OPTION_JSON, "json", NULL, "prints JSON in the place of the lines"},
     {OPTION_HELP, "help", NULL, "prints this and does nothing else; -h is the same"},
 };
 
@@ -80,6 +85,17 @@ static const struct subcommand subcommands[] = {
      .most = 1,
      .first_file = NO_FILES,
      .run = entries_command},
+    {.name = "accounts",
+     .operands = "JOURNAL",
+     .summary = "lists the accounts that the journal holds",
+     .text = "Prints a line for each account that the journal holds, in order of first arrival: key, first old\n"
+             "date, last new date, last new balance, number of statements. The key is bank, branch, currency,\n"
+             "decimals and account with - between them, and can be typed as ACCOUNT for 'crownhazel position'.\n",
+     .options = OPTION_JSON,
+     .least = 1,
+     .most = 1,
+     .first_file = NO_FILES,
+     .run = accounts_command},
     {.name = "status",
      .operands = "JOURNAL",
      .summary = "says how full the journal is",
@@ -90,6 +106,20 @@ static const struct subcommand subcommands[] = {
      .most = 1,
      .first_file = NO_FILES,
      .run = status_command},
+    {.name = "position",
+     .operands = "JOURNAL ACCOUNT FIRST LAST",
+     .summary = "says an account's balance in value, day by day",
+     .text = "Prints a line for each day from FIRST to LAST, at most 400: the date, and the balance in value at\n"
+             "its end. That is the first old balance that the journal holds of the account, and all movements\n"
+             "whose value date is that day or earlier.\n"
+             "\n"
+             "ACCOUNT is the account's 11 characters or, where several accounts have them, the whole key as\n"
+             "'crownhazel accounts' prints it. Dates are YYYY-MM-DD.\n",
+     .options = OPTION_WHOLE | OPTION_SVG | OPTION_JSON,
+     .least = 4,
+     .most = 4,
+     .first_file = NO_FILES,
+     .run = position_command},
     {.name = "show",
      .operands = "FILE",
      .summary = "lists the statements and movements of a file",
@@ -182,6 +212,12 @@ static bool take_option(const struct option_form *form, const char *value, struc
     switch (form->option) {
     case OPTION_HELP: arguments->help = true; break;
     case OPTION_BLANK_EXISTING: arguments->blank_existing = true; break;
+    case OPTION_WHOLE: arguments->whole = true; break;
+    case OPTION_JSON: arguments->json = true; break;
+    case OPTION_SVG:
+        arguments->picture = value;
+        wanted = is_standard_input(value) ? "a file; standard output is for the lines" : NULL;
+        break;
     case OPTION_LINE_END: wanted = line_end_named(value, &arguments->line_end) ? NULL : "none, lf, crlf or auto"; break;
     case OPTION_MODE:
         arguments->has_mode = true;
@@ -325,9 +361,9 @@ static void write_command_help(FILE *out, const void *what) {
     fprintf(out, "usage: crownhazel SUBCOMMAND ..\n%s\n", command_text);
     for (size_t i = 0; i < sizeof subcommands / sizeof subcommands[0]; i++) {
         snprintf(form, sizeof form, "%s %s", subcommands[i].name, subcommands[i].operands);
-        fprintf(out, "  %-24s %s\n", form, subcommands[i].summary);
+        fprintf(out, "  %-36s %s\n", form, subcommands[i].summary);
     }
-    fprintf(out, "  %-24s %s\n  %-24s %s\n\n", "help [SUBCOMMAND]", "prints this, or says more; -h and --help do too",
+    fprintf(out, "  %-36s %s\n  %-36s %s\n\n", "help [SUBCOMMAND]", "prints this, or says more; -h and --help do too",
             "-V, --version", "prints the version");
     fprintf(out, "FILE can be -, standard input.\n%s", status_text);
 }

@@ -15,7 +15,10 @@ enum {
     OPTION_BLANK_EXISTING = 1 << 1,
     OPTION_MODE = 1 << 2,
     OPTION_WAIT = 1 << 3,
-    OPTION_HELP = 1 << 4
+    OPTION_WHOLE = 1 << 4,
+    OPTION_SVG = 1 << 5,
+    OPTION_JSON = 1 << 6,
+    OPTION_HELP = 1 << 7
 };
 
 struct arguments;
@@ -43,6 +46,9 @@ struct arguments {
     mode_t mode;
     bool has_wait;
     unsigned wait; /* seconds */
+    bool whole;
+    const char *picture; /* where to draw; NULL for nowhere */
+    bool json;
     bool help;
 };
 

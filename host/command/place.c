@@ -82,31 +82,46 @@ static bool is_reserved(const char *path) {
 }
 
 int no_file(const struct place *place) {
-    complain(place->name, "no journal: it is a folder, a pipe or a device");
+    complain(place->name, "no %s: it is a folder, a pipe or a device", place->kind);
+    return STATUS_SYSTEM;
+}
+
+static int no_place(const struct place *place) {
+    complain(place->name, "no %s: %s", place->kind, strerror(errno));
     return STATUS_SYSTEM;
 }
 
 static int look_at(struct place *place) {
     if (is_reserved(place->path)) {
-        complain(place->name, "no journal: names that end in " LOCK_ENDING
-                              ", and those of the form .NAME" TEMPORARY_ENDING ", are the command's own");
+        complain(place->name,
+                 "no %s: names that end in " LOCK_ENDING ", and those of the form .NAME" TEMPORARY_ENDING
+                 ", are the command's own",
+                 place->kind);
         return STATUS_USAGE;
     }
     struct stat status;
     place->exists = lstat(place->path, &status) == 0;
     if (!place->exists && errno != ENOENT) {
-        return failed(place->name, "no journal");
+        return no_place(place);
     }
     return place->exists && !S_ISREG(status.st_mode) ? no_file(place) : STATUS_DONE;
 }
 
-int find_journal(const char *name, struct place *place) {
-    *place = (struct place){.name = name, .around = -1, .lock = -1, .file = -1};
-    int status = name_places(place) ? look_at(place) : failed(name, "no journal");
+static int find_place(const char *name, const char *kind, struct place *place) {
+    *place = (struct place){.name = name, .kind = kind, .around = -1, .lock = -1, .file = -1};
+    int status = name_places(place) ? look_at(place) : no_place(place);
     if (status != STATUS_DONE) {
         leave_place(place);
     }
     return status;
+}
+
+int find_journal(const char *name, struct place *place) {
+    return find_place(name, "journal", place);
+}
+
+int find_picture(const char *name, struct place *place) {
+    return find_place(name, "picture", place);
 }
 
 static int find_existing(const char *name, const char *what, struct place *place) {

@@ -1,4 +1,4 @@
-/* Where a journal stands, and the names beside it. */
+/* Where a journal stands, or a picture, and the names beside it. */
 #ifndef COMMAND_PLACE_H
 #define COMMAND_PLACE_H
 
@@ -12,6 +12,7 @@
 /* Begins with find_journal, ends with leave_place. */
 struct place {
     const char *name; /* as it was given, for messages */
+    const char *kind; /* what is to stand there, for messages */
     char *path;       /* symbolic links followed */
     char *folder;
     char *lock_path;  /* JOURNAL.lock: whoever changes the journal holds it. It is never removed */
@@ -32,6 +33,9 @@ int find_journal(const char *name, struct place *place);
 /* Finds a journal that exists; a copy is one too. */
 int find_existing_journal(const char *name, struct place *place);
 int find_copy_of_journal(const char *name, struct place *place);
+
+/* Finds the place of a picture, as that of a journal. */
+int find_picture(const char *name, struct place *place);
 
 /* Opens the folder, so that it can be brought to the disk when something was written there. */
 int open_folder(struct place *place);

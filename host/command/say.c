@@ -99,6 +99,7 @@ static const char *advice(uint32_t number, size_t lines) {
     case 24:
         return lines < CROWNHAZEL_MOST_LINES ? "'crownhazel grow' gives it more lines; then deliver again"
                                              : "it has all its lines: " KEEP_IT;
+    case 25: return "'crownhazel accounts' lists the accounts that it holds";
     default: return NULL;
     }
 }

@@ -4,7 +4,10 @@ int status_of_refusal(uint32_t number) {
     if (number == 21) {
         return STATUS_UNSOUND;
     }
-    return number >= 22 && number <= 24 ? STATUS_JOURNAL_REFUSES : STATUS_FILE_REFUSED;
+    if (number >= 22 && number <= 24) {
+        return STATUS_JOURNAL_REFUSES;
+    }
+    return number == 25 || number == 27 ? STATUS_USAGE : STATUS_FILE_REFUSED;
 }
 
 static int rank(int status) {

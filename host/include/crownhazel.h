@@ -149,12 +149,14 @@ static inline const char *crownhazel_words(uint32_t refusal) {
     case 13: return "sum wrong, seen at the 07";
     case 14: return "file ends inside a statement";
     case 15: return "record that would be a statement's 10,000th";
+    case 18: return "lent table too short";
     case 20: return "output shorter than the statement";
     case 21: return "not a sound journal, or a length that none has";
     case 22: return "statement does not follow";
     case 23: return "contents table full";
     case 24: return "too few body lines left";
     case 25: return "no such entry, or no statement of that account";
+    case 27: return "span that is empty, too long or has a date that does not exist";
     default: return "no refusal of this library";
     }
 }
