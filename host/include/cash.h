@@ -25,13 +25,13 @@ enum {
 };
 
 /* Fills the first numbers of a table with the balance in value at the end of each day from first to last, both counted:
- * the account's first old balance held plus all movements whose value date is that day or earlier. Answers the number of
- * days, packed as in crownhazel.h; refuses with 21, 27, 25 or 18, record 0. `table_len` counts numbers. */
+ * the account's first old balance held plus all movements whose value date is that day or earlier. Answers the number
+ * of days, packed as in crownhazel.h; refuses with 21, 27, 25 or 18, record 0. `table_len` counts numbers. */
 uint64_t crownhazel_position(const uint8_t *journal, size_t journal_len, const uint8_t *key, size_t key_len,
                              uint64_t first, uint64_t last, int64_t *table, size_t table_len);
 
-/* The new balance of an entry of a sound journal, without testing it again: ask crownhazel_used first. Of a journal that
- * is not sound it says what stands there; 0 where no statement stands there. Entries are numbered from 1. */
+/* The new balance of an entry of a sound journal, without testing it again: ask crownhazel_used first. Entries are
+ * numbered from 1; 0 where there is no such entry. Of a journal that is not sound it says what stands there. */
 int64_t crownhazel_balance(const uint8_t *journal, size_t journal_len, uint64_t entry);
 
 /* The day so many days after a day; 0 where either is not a day from 1980 to 2079. */
