@@ -32,18 +32,18 @@ use Rattle.journal_layout.specs.Chains.{ofAccount}
 use Rattle.journal.specs.Newest.{keySize, keyFrom}
 use Rattle.journal.specs.Holdings.{bodyIn, ofAccountIn}
 use Rattle.journal.specs.Promises.{Promise}
-use Rattle.cash.specs.Spans.{mostDays, spanDays, noSpan, dayAfter}
+use Rattle.cash.specs.Spans.{mostDays, spanDays, noSpan, laterDay}
 use Rattle.cash.specs.Positions.{isNone, noAccount, balanceIn}
 use Rattle.cash.specs.Calls.{spanOf, firstFrom}
 use Rattle.cash.proofs.Filling.{look-back}
 
 -- ---- days
 
-last-day : isDay 20791231 ≡ true
+pub last-day : isDay 20791231 ≡ true
 unfolding isDay exists daysIn
 last-day = refl
 
-last-ordinal : ordinalOf 20791231 + 1 ≡ allDays
+pub last-ordinal : ordinalOf 20791231 + 1 ≡ allDays
 unfolding ordinalOf isDay exists daysIn beforeYear beforeMonth
 last-ordinal = refl
 
@@ -57,20 +57,20 @@ past-all k h = by (isDay k) refl
 
 -- the day so many days after a day
 module _ (k n : ℕ) where
-  pub after-none : allDays ≤ ordinalOf k → 0 ≡ dayAfter k n
-  unfolding dayAfter
+  pub after-none : allDays ≤ ordinalOf k → 0 ≡ laterDay k n
+  unfolding laterDay
   after-none h = by (isDay k) refl
     where
       by : (t : Bool) → isDay k ≡ t → 0 ≡ pick t (ofOrdinal (ordinalOf k + n)) 0
       by true e = absurd (omega (arith, h, ordinal-below k e))
       by false e = refl
 
-  pub after-all : ordinalOf k < allDays → allDays ≤ n → 0 ≡ dayAfter k n
-  unfolding dayAfter ofOrdinal
+  pub after-all : ordinalOf k < allDays → allDays ≤ n → 0 ≡ laterDay k n
+  unfolding laterDay ofOrdinal
   after-all h g = sym (rw (ordinal-day k h, le-ltb (ordinalOf k + n) allDays (omega arith)))
 
-  pub after-there : {r : ℕ} → ordinalOf k < allDays → r ≡ ofOrdinal (ordinalOf k + n) → r ≡ dayAfter k n
-  unfolding dayAfter
+  pub after-there : {r : ℕ} → ordinalOf k < allDays → r ≡ ofOrdinal (ordinalOf k + n) → r ≡ laterDay k n
+  unfolding laterDay
   after-there h e = e ∙ sym (rw (ordinal-day k h))
 
 -- ---- the span

@@ -9,11 +9,11 @@ use lib.Dec.{eqb, ltb}
 use lib.ListN.{length, getD, drop, length-map}
 use lib.Seq.{drop-at}
 use lib.IntN.{ℤ, pos, natAbs, _-ℤ_}
-use borrow.Author.Tests.{eq-eqb, eqb-true}
+use borrow.Author.Tests.{eq-eqb, eqb-true, lt-ltb}
 use Rattle.zones.specs.Choice.{pick}
 use Rattle.dates.specs.Days.{isDay}
-use Rattle.dates.specs.Ordinals.{ordinalOf, nextDay}
-use Rattle.dates.proofs.Ordinals.{ordinal-below, of-ordinal, not-last}
+use Rattle.dates.specs.Ordinals.{allDays, ordinalOf, nextDay, dayAfter, ofOrdinal}
+use Rattle.dates.proofs.Ordinals.{ordinal-below, ordinal-order, ordinal-of, of-ordinal, of-ordinal-day, not-last}
 use Rattle.framing.specs.Files.{All, widthOf}
 use Rattle.grammar.specs.declared.Key.{Key}
 use Rattle.grammar.specs.Statements.{Statement}
@@ -33,7 +33,7 @@ use Rattle.journal.specs.Promises.{Promise}
 use Rattle.journal.proofs.Promises.{promise}
 use Rattle.cash.specs.declared.Outcome.the-variants.{Filled, Refused}
 use Rattle.cash.specs.Value.{movementsOf, firstBalance, valueAt, balanceAt, sumOn}
-use Rattle.cash.specs.Spans.{spanDays, noSpan, daysFrom, dayAfter}
+use Rattle.cash.specs.Spans.{spanDays, noSpan, daysFrom, laterDay}
 use Rattle.cash.specs.Positions.{isNone, noAccount, positionOf, amountsOf, tableOf, balanceIn}
 use Rattle.cash.specs.Calls.{spanOf}
 use Rattle.cash.specs.Answers.{Positions}
@@ -41,7 +41,7 @@ use Rattle.cash.proofs.Group.{less}
 use Rattle.cash.proofs.Rows.{no-movement}
 use Rattle.cash.proofs.Spans.{next-day-amount, day-at}
 use Rattle.cash.proofs.Account.{account-days, account-fits, account-last}
-use Rattle.cash.proofs.Asking.{Spanned, spanned, not-spanned}
+use Rattle.cash.proofs.Asking.{last-day as last-of-all, last-ordinal, Spanned, spanned, not-spanned}
 
 -- ---- an account of which a statement is held
 
@@ -115,6 +115,29 @@ answer-says j x first last room {n} e =
     by true p true q c r d s f z = absurd (let y : _≡_ {A = ℕ} 0 1 = cc in omega arith)
     by false p b q c r d s f z = absurd (let y : _≡_ {A = ℕ} 0 1 = cc in omega arith)
 
+-- ---- the days of a span
+
+module _ (first i : ℕ) (day : isDay first ≡ true) where
+  later-is : laterDay first i ≡ ofOrdinal (ordinalOf first + i)
+  unfolding laterDay
+  later-is = rw day
+
+  later-day : ordinalOf first + i < allDays → isDay (laterDay first i) ≡ true
+  later-day l = rw later-is (of-ordinal-day (ordinalOf first + i) l)
+
+  next-later : ordinalOf first + (i + 1) < allDays → laterDay first (i + 1) ≡ nextDay (laterDay first i)
+  unfolding laterDay ofOrdinal dayAfter
+  next-later l =
+      let z : ordinalOf first + (i + 1) ≡ suc (ordinalOf first + i) = omega arith in
+      rw (day, z, lt-ltb (suc (ordinalOf first + i)) allDays (omega arith), lt-ltb (ordinalOf first + i) allDays (omega arith))
+
+  -- it is not the last day of all
+  later-early : ordinalOf first + (i + 1) < allDays → laterDay first i < 20791231
+  later-early l =
+      let m : ordinalOf first + i < allDays = omega arith in
+      let o : ordinalOf (laterDay first i) ≡ ordinalOf first + i = rw later-is (ordinal-of (ordinalOf first + i) m) in
+      ordinal-order (laterDay first i) 20791231 (later-day m) last-of-all .1 (omega (arith, o, last-ordinal))
+
 -- ---- the table
 
 length-days : (k n : ℕ) → length (daysFrom k n) ≡ n
@@ -132,11 +155,11 @@ map-at f [] i h = absurd (not-suc-le-zero h)
 map-at f (x ∷ l) zero h = refl
 map-at f (x ∷ l) (suc i) h = map-at f l i (le-of-suc-le-suc h)
 
-day-there : (first n i : ℕ) → isDay first ≡ true → getD (daysFrom first n) i 0 ≡ dayAfter first i → (f : ℕ → ℤ) → i < n → getD (map f (daysFrom first n)) i (pos 0) ≡ f (dayAfter first i)
+day-there : (first n i : ℕ) → isDay first ≡ true → getD (daysFrom first n) i 0 ≡ laterDay first i → (f : ℕ → ℤ) → i < n → getD (map f (daysFrom first n)) i (pos 0) ≡ f (laterDay first i)
 day-there first n i h e f l = map-at f (daysFrom first n) i (omega (arith, l, length-days first n)) ∙ ap f e
 
 module _ {j x : List ℕ} {first last : ℕ} {t : List ℤ} {n : ℕ} {t′ : List ℤ} (g : Positions j x first last t (Filled n) t′) where
-  abbrev says : Answered j x first last n
+  abbrev pub says : Answered j x first last n
   says = answer-says j x first last (length t) (g .answer)
 
   table-is : t′ ≡ amountsOf (keyFrom x) (heldOf j) first n ++ drop n t
@@ -148,23 +171,31 @@ module _ {j x : List ℕ} {first last : ℕ} {t : List ℤ} {n : ℕ} {t′ : Li
   length-amounts = length-map (daysFrom first n) (λ day. balanceAt (keyFrom x) day (heldOf j)) ∙ length-days first n
 
   -- EACH ROW IS THAT DAY'S
-  pub each-day : (i : ℕ) → i < n → getD t′ i (pos 0) ≡ balanceAt (keyFrom x) (dayAfter first i) (heldOf j)
-  unfolding amountsOf dayAfter
+  pub each-day : (i : ℕ) → i < n → getD t′ i (pos 0) ≡ balanceAt (keyFrom x) (laterDay first i) (heldOf j)
+  unfolding amountsOf laterDay
   each-day i h =
       let s = says .span in
-      let d : getD (daysFrom first n) i 0 ≡ dayAfter first i =
+      let d : getD (daysFrom first n) i 0 ≡ laterDay first i =
       day-at first n i (s .day) (omega (arith, s .many, s .order, ordinal-below last (s .day′))) h ∙ sym (rw (s .day)) in
       ap (λ l. getD l i (pos 0)) table-is
       ∙ append-at (amountsOf (keyFrom x) (heldOf j) first n) (drop n t) i (omega (arith, h, length-amounts))
       ∙ day-there first n i (s .day) d (λ day. balanceAt (keyFrom x) day (heldOf j)) h
 
+  -- a row less the row before it is the sum of the movements valued on its day
+  pub next-row : (i : ℕ) → i + 1 < n → getD t′ (i + 1) (pos 0) -ℤ getD t′ i (pos 0) ≡ sumOn (movementsOf (keyFrom x) (heldOf j)) (laterDay first (i + 1))
+  next-row i h =
+      let s = says .span in
+      let l : ordinalOf first + (i + 1) < allDays = omega (arith, h, s .many, s .order, ordinal-below last (s .day′)) in
+      let d = next-later first i (s .day) l in
+      rw (each-day (i + 1) h, each-day i (omega arith), d) (difference (promise j (says .sound)) (keyFrom x) (laterDay first i) (later-day first i (s .day) (omega arith)) (later-early first i (s .day) l))
+
   -- the last row is the last day's
   pub last-day : getD t′ (n - 1) (pos 0) ≡ balanceAt (keyFrom x) last (heldOf j)
-  unfolding dayAfter
+  unfolding laterDay
   last-day =
       let s = says .span in
       let z : ordinalOf first + (n - 1) ≡ ordinalOf last = omega (arith, s .many, s .order) in
-      let d : dayAfter first (n - 1) ≡ last = rw (s .day, z) (of-ordinal last (s .day′)) in
+      let d : laterDay first (n - 1) ≡ last = rw (s .day, z) (of-ordinal last (s .day′)) in
       each-day (n - 1) (omega (arith, s .many, s .order)) ∙ ap (λ (day : ℕ). balanceAt (keyFrom x) day (heldOf j)) d
 
   -- THE LAST AMOUNT IS THE LAST NEW BALANCE, if the last day is at or after every value date held of the account
@@ -173,7 +204,7 @@ module _ {j x : List ℕ} {first last : ℕ} {t : List ℤ} {n : ℕ} {t′ : Li
 
   -- every row fits 64 signed bits
   pub row-fits : (i : ℕ) → i < n → natAbs (getD t′ i (pos 0)) < 2 ^ 63
-  row-fits i h = rw (each-day i h) (fits-64 (promise j (says .sound)) (keyFrom x) (says .account) (dayAfter first i))
+  row-fits i h = rw (each-day i h) (fits-64 (promise j (says .sound)) (keyFrom x) (says .account) (laterDay first i))
 
   -- the rest is untouched
   pub rest-untouched : drop n t′ ≡ drop n t

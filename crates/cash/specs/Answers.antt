@@ -8,7 +8,7 @@ use Rattle.zones.specs.Choice.{pick}
 use Rattle.packing.specs.Packing.{aIn, bIn, isAnswer, answered, refused}
 use Rattle.cash.specs.declared.Outcome.{Outcome}
 use Rattle.cash.specs.declared.Outcome.the-variants.{Filled, Refused}
-use Rattle.cash.specs.Spans.{dayAfter}
+use Rattle.cash.specs.Spans.{laterDay}
 use Rattle.cash.specs.Positions.{positionOf, tableOf, balanceIn}
 
 -- number, record and number of days; zero where the paper says zero
@@ -46,4 +46,4 @@ pub record Balance (j : List ℕ) (e : ℕ) (r : ℤ) : Type 0 where
 
 -- crownhazel_day
 pub record DayAfter (day after r : ℕ) : Type 0 where
-  pub answer : r ≡ dayAfter day after
+  pub answer : r ≡ laterDay day after

@@ -25,5 +25,5 @@ daysFrom k zero = []
 daysFrom k (suc n) = k ∷ daysFrom (nextDay k) n
 
 -- the day so many days after a day; 0, which is no day, where either is none
-unfoldable pub dayAfter : (day after : ℕ) → ℕ
-dayAfter k n = pick (isDay k) (ofOrdinal (ordinalOf k + n)) 0
+unfoldable pub laterDay : (day after : ℕ) → ℕ
+laterDay k n = pick (isDay k) (ofOrdinal (ordinalOf k + n)) 0
