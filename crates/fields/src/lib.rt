@@ -153,8 +153,9 @@ pub fn valued_at(r: &[u8]) -> Valued
             amount: 0,
         };
     }
+    let value = day(&r[42..48]);
     Valued {
-        value: day(&r[42..48]),
+        value,
         amount: amount(&r[90..104]),
     }
 }
