@@ -51,6 +51,7 @@ static const struct subcommand subcommands[] = {
      .options = OPTION_BLANK_EXISTING | OPTION_MODE | OPTION_WAIT,
      .least = 2,
      .most = 2,
+     .journals = 1,
      .first_file = NO_FILES,
      .run = open_command},
     {.name = "check",
@@ -74,6 +75,7 @@ static const struct subcommand subcommands[] = {
      .options = OPTION_LINE_END | OPTION_WAIT,
      .least = 2,
      .most = SIZE_MAX,
+     .journals = 1,
      .first_file = 1,
      .run = deliver_command},
     {.name = "entries",
@@ -83,6 +85,7 @@ static const struct subcommand subcommands[] = {
              "number, bank, branch, currency, decimals, account, old date, new date, first line, records.\n",
      .least = 1,
      .most = 1,
+     .journals = 1,
      .first_file = NO_FILES,
      .run = entries_command},
     {.name = "accounts",
@@ -94,6 +97,7 @@ static const struct subcommand subcommands[] = {
      .options = OPTION_JSON,
      .least = 1,
      .most = 1,
+     .journals = 1,
      .first_file = NO_FILES,
      .run = accounts_command},
     {.name = "status",
@@ -104,6 +108,7 @@ static const struct subcommand subcommands[] = {
              "Prints 'JOURNAL: sound, accounts A, entries used E, free F, lines used L, free M'.\n",
      .least = 1,
      .most = 1,
+     .journals = 1,
      .first_file = NO_FILES,
      .run = status_command},
     {.name = "position",
@@ -118,6 +123,7 @@ static const struct subcommand subcommands[] = {
      .options = OPTION_WHOLE | OPTION_SVG | OPTION_JSON,
      .least = 4,
      .most = 4,
+     .journals = 1,
      .first_file = NO_FILES,
      .run = position_command},
     {.name = "show",
@@ -141,6 +147,7 @@ static const struct subcommand subcommands[] = {
      .options = OPTION_WAIT,
      .least = 2,
      .most = 2,
+     .journals = 1,
      .first_file = NO_FILES,
      .run = grow_command},
     {.name = "backup",
@@ -152,6 +159,7 @@ static const struct subcommand subcommands[] = {
              "Prints 'COPY: entries E, checksum COPY.sha256', when both are safe on the disk.\n",
      .least = 2,
      .most = 2,
+     .journals = 2,
      .first_file = NO_FILES,
      .run = backup_command},
     {.name = "restore",
@@ -166,6 +174,7 @@ static const struct subcommand subcommands[] = {
      .options = OPTION_WAIT,
      .least = 2,
      .most = 2,
+     .journals = 2,
      .first_file = NO_FILES,
      .run = restore_command},
 };
@@ -286,11 +295,11 @@ static bool standard_input_fits(const struct arguments *arguments) {
     size_t times = 0;
     for (size_t i = 0; i < arguments->count; i++) {
         bool named = is_standard_input(arguments->operands[i]);
-        if (named && i < arguments->subcommand->first_file) {
+        if (named && i < arguments->subcommand->journals) {
             complain(arguments->subcommand->name, "standard input is no journal; a file of that name is ./-");
             return false;
         }
-        times += named;
+        times += named && i >= arguments->subcommand->first_file;
     }
     if (times > 1) {
         complain(arguments->subcommand->name, "standard input is named more than once");

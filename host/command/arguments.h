@@ -31,6 +31,7 @@ struct subcommand {
     const char *text;     /* its own help */
     unsigned options;     /* a bit for each */
     size_t least, most;   /* operands */
+    size_t journals;      /* how many operands, from the first on, are journals or copies */
     size_t first_file;    /* which operands, from this one on, are files that can be standard input */
     int (*run)(const struct arguments *arguments);
 };

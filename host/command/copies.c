@@ -46,15 +46,20 @@ static bool compose_line(const char *digits, const char *name, struct bytes *lin
     return true;
 }
 
+static int exists_already(const char *name, const char *path) {
+    complain(name, "%s exists already and stays as it is; take another name", path);
+    return STATUS_USAGE;
+}
+
 /* The copy first: a copy without its checksum is not taken for one that is whole. Where not all of it is sure to be on
  * the disk both go again, so that the same call can be made again. */
 static int write_both(const struct place *copy, const struct bytes *journal, const char *path,
                       const struct bytes *line) {
-    int status = write_new(copy, copy->path, journal, no_copy);
+    int status = write_new(copy, copy->path, journal, no_copy, exists_already);
     if (status != STATUS_DONE) {
         return status;
     }
-    status = write_new(copy, path, line, no_copy);
+    status = write_new(copy, path, line, no_copy, exists_already);
     if (status == STATUS_DONE) {
         status = sync_folder(copy);
         if (status != STATUS_DONE) {

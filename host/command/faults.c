@@ -45,6 +45,7 @@ int __real_open(const char *path, int flags, ...);
 int __real_pipe2(int ends[2], int flags);
 ssize_t __real_read(int descriptor, void *into, size_t room);
 int __real_rename(const char *from, const char *to);
+int __real_renameat2(int from_folder, const char *from, int to_folder, const char *to, unsigned flags);
 int __real_unlink(const char *path);
 pid_t __real_waitpid(pid_t child, int *status, int options);
 ssize_t __real_write(int descriptor, const void *from, size_t length);
@@ -70,6 +71,7 @@ int __wrap_open(const char *path, int flags, ...);
 int __wrap_pipe2(int ends[2], int flags);
 ssize_t __wrap_read(int descriptor, void *into, size_t room);
 int __wrap_rename(const char *from, const char *to);
+int __wrap_renameat2(int from_folder, const char *from, int to_folder, const char *to, unsigned flags);
 int __wrap_unlink(const char *path);
 pid_t __wrap_waitpid(pid_t child, int *status, int options);
 ssize_t __wrap_write(int descriptor, const void *from, size_t length);
@@ -264,6 +266,11 @@ int __wrap_pipe2(int ends[2], int flags) {
 int __wrap_rename(const char *from, const char *to) {
     int result;
     return is_kept_from("rename", &result) ? result : __real_rename(from, to);
+}
+
+int __wrap_renameat2(int from_folder, const char *from, int to_folder, const char *to, unsigned flags) {
+    int result;
+    return is_kept_from("renameat2", &result) ? result : __real_renameat2(from_folder, from, to_folder, to, flags);
 }
 
 int __wrap_unlink(const char *path) {

@@ -36,13 +36,9 @@ char *write_temporary(const struct place *place, const char *path, const struct 
     return NULL;
 }
 
-int exists_already(const char *name, const char *path) {
-    complain(name, "%s exists already and stays as it is; take another name", path);
-    return STATUS_USAGE;
-}
-
 /* By a link, which fails where the name is taken: a file that appears in between is not overwritten. */
-int write_new(const struct place *place, const char *path, const struct bytes *bytes, const char *left) {
+int write_new(const struct place *place, const char *path, const struct bytes *bytes, const char *left,
+              taken_name *taken) {
     char *temporary = write_temporary(place, path, bytes, NULL);
     if (temporary == NULL) {
         return not_written(place, path, left);
@@ -55,5 +51,5 @@ int write_new(const struct place *place, const char *path, const struct bytes *b
     if (linked) {
         return STATUS_DONE;
     }
-    return error == EEXIST ? exists_already(place->name, path) : not_written(place, path, left);
+    return error == EEXIST ? taken(place->name, path) : not_written(place, path, left);
 }

@@ -12,12 +12,12 @@
 char *write_temporary(const struct place *place, const char *path, const struct bytes *bytes,
                       const struct rights *rights);
 
-/* These answer a status, with a message where it is not STATUS_DONE. */
+/* Says that a path is taken. Answers a status. */
+typedef int taken_name(const char *name, const char *path);
 
-/* A new file with these bytes, where there is none of that name. `left` says what is left where it fails. */
-int write_new(const struct place *place, const char *path, const struct bytes *bytes, const char *left);
-
-/* Says that a name is taken. */
-int exists_already(const char *name, const char *path);
+/* A new file with these bytes, where there is none of that name. `left` says what is left where it fails. Answers a
+ * status, with a message where it is not STATUS_DONE. */
+int write_new(const struct place *place, const char *path, const struct bytes *bytes, const char *left,
+              taken_name *taken);
 
 #endif

@@ -48,6 +48,52 @@ static bool read_question(const struct arguments *arguments, struct question *qu
     return read_span(arguments, question);
 }
 
+/* The library has refused the span: this says why. */
+static int no_span(const struct question *question, uint64_t answer) {
+    char first[DAY_FORM + 1], last[DAY_FORM + 1], most[DAY_FORM + 1];
+    char name[2 * DAY_FORM + 8], why[80];
+    bool begins = crownhazel_day(question->first, 0) != 0;
+    bool ends = crownhazel_day(question->last, 0) != 0;
+    spell_day(question->first, first);
+    spell_day(question->last, last);
+    spell_day(crownhazel_day(question->first, CROWNHAZEL_MOST_DAYS - 1), most);
+    snprintf(name, sizeof name, "%s to %s", first, last);
+    if (!begins || !ends) {
+        snprintf(why, sizeof why, "%s is no day from 1980 to 2079", begins ? last : first);
+    } else if (question->last < question->first) {
+        snprintf(why, sizeof why, "it ends before it begins");
+    } else {
+        snprintf(why, sizeof why, "the last of %d days from %s on is %s", CROWNHAZEL_MOST_DAYS, first, most);
+    }
+    return refused_for(name, answer, why);
+}
+
+static uint64_t ask_library(const struct question *question, const struct bytes *journal, const uint8_t *key,
+                            size_t length, struct position *position) {
+    return crownhazel_position(journal->first, journal->length, key, length, question->first, question->last,
+                               position->amounts, CROWNHAZEL_MOST_DAYS);
+}
+
+static int not_answered(const struct question *question, const struct bytes *journal, uint64_t answer) {
+    return crownhazel_refusal(answer) == 27
+               ? no_span(question, answer)
+               : refused_by(question->account, answer, question->journal, lines_of(journal));
+}
+
+/* Asks the library, which says whether there is such an account and such a span. */
+static int ask(const struct question *question, const struct bytes *journal, const uint8_t *key, size_t length,
+               struct position *position) {
+    uint64_t answer = ask_library(question, journal, key, length, position);
+    if (crownhazel_is_refused(answer)) {
+        return not_answered(question, journal, answer);
+    }
+    memcpy(position->key, key, sizeof position->key);
+    position->first = question->first;
+    position->last = question->last;
+    position->days = crownhazel_field(answer, 0);
+    return STATUS_DONE;
+}
+
 /* The keys of a journal that have the 11 characters of an account. */
 struct keys {
     const uint8_t *list[CROWNHAZEL_MOST_ENTRIES];
@@ -75,8 +121,14 @@ static void write_keys(FILE *out, const void *what) {
     }
 }
 
-static int several(const struct question *question, const struct keys *keys) {
+/* The span comes first, as it does where there is one account. */
+static int several(const struct question *question, const struct bytes *journal, const struct keys *keys) {
+    struct position position;
     struct bytes text;
+    uint64_t answer = ask_library(question, journal, keys->list[0], CROWNHAZEL_KEY, &position);
+    if (crownhazel_is_refused(answer)) {
+        return not_answered(question, journal, answer);
+    }
     if (!take_text(write_keys, keys, &text)) {
         return failed(question->account, "no memory for the answer");
     }
@@ -86,50 +138,13 @@ static int several(const struct question *question, const struct keys *keys) {
     return STATUS_USAGE;
 }
 
-/* The library has refused the span: this says why. */
-static int no_span(const struct question *question, uint64_t answer) {
-    char first[DAY_FORM + 1], last[DAY_FORM + 1], most[DAY_FORM + 1];
-    char name[2 * DAY_FORM + 8], why[80];
-    bool begins = crownhazel_day(question->first, 0) != 0;
-    bool ends = crownhazel_day(question->last, 0) != 0;
-    spell_day(question->first, first);
-    spell_day(question->last, last);
-    spell_day(crownhazel_day(question->first, CROWNHAZEL_MOST_DAYS - 1), most);
-    snprintf(name, sizeof name, "%s to %s", first, last);
-    if (!begins || !ends) {
-        snprintf(why, sizeof why, "%s is no day from 1980 to 2079", begins ? last : first);
-    } else if (question->last < question->first) {
-        snprintf(why, sizeof why, "it ends before it begins");
-    } else {
-        snprintf(why, sizeof why, "the last of %d days from %s on is %s", CROWNHAZEL_MOST_DAYS, first, most);
-    }
-    return refused_for(name, answer, why);
-}
-
-/* Asks the library, which says whether there is such an account and such a span. */
-static int ask(const struct question *question, const struct bytes *journal, const uint8_t *key, size_t length,
-               struct position *position) {
-    uint64_t answer = crownhazel_position(journal->first, journal->length, key, length, question->first, question->last,
-                                          position->amounts, CROWNHAZEL_MOST_DAYS);
-    if (crownhazel_is_refused(answer)) {
-        return crownhazel_refusal(answer) == 27
-                   ? no_span(question, answer)
-                   : refused_by(question->account, answer, question->journal, lines_of(journal));
-    }
-    memcpy(position->key, key, sizeof position->key);
-    position->first = question->first;
-    position->last = question->last;
-    position->days = crownhazel_field(answer, 0);
-    return STATUS_DONE;
-}
-
 /* By the account's characters alone. Where no key has them they are asked for as they are: they are no key. */
 static int ask_by_account(const struct question *question, const struct bytes *journal, const struct contents *contents,
                           struct position *position) {
     struct keys keys;
     find_keys(contents, question->account, &keys);
     if (keys.count > 1) {
-        return several(question, &keys);
+        return several(question, journal, &keys);
     }
     return keys.count == 1 ? ask(question, journal, keys.list[0], CROWNHAZEL_KEY, position)
                            : ask(question, journal, (const uint8_t *)question->account, ACCOUNT_FORM, position);
@@ -178,7 +193,8 @@ static void write_object(FILE *out, const void *what) {
     spell_day(position->last, last);
     fprintf(out, "{");
     write_key_members(out, position->key);
-    fprintf(out, "\"first\": \"%s\", \"last\": \"%s\", \"days\": [\n", first, last);
+    fprintf(out, "\"whole\": %s, \"first\": \"%s\", \"last\": \"%s\", \"days\": [\n", answer->whole ? "true" : "false",
+            first, last);
     for (size_t i = 0; i < position->days; i++) {
         write_day(out, answer, i);
         fprintf(out, i + 1 < position->days ? ",\n" : "\n]}\n");

@@ -40,27 +40,49 @@ static int open_older(struct place *place) {
     return access(place->path, W_OK) == 0 ? STATUS_DONE : failed(place->name, "the picture may not be replaced");
 }
 
-/* The name is looked at once more: what another program has put there stays. */
-static int put_in_place(const struct place *place, const char *temporary) {
-    if (!names_file(place->path, place->file)) {
-        if (errno != 0) {
-            return not_written(place, place->path, older_one);
-        }
-        complain(place->name, "another program has put a file there meanwhile, which stays; try again");
-        return STATUS_SYSTEM;
-    }
-    return rename(temporary, place->path) == 0 ? STATUS_DONE : not_written(place, place->path, older_one);
+static int another_file(const char *name, const char *path) {
+    complain(name, "another program has put a file at %s meanwhile, which stays; try again", path);
+    return STATUS_SYSTEM;
 }
 
-/* With the rights of the older one. */
+/* The two names change places in one step, so that what had the name last can still be looked at. */
+static bool exchange(const char *temporary, const char *path) {
+    return renameat2(AT_FDCWD, temporary, AT_FDCWD, path, RENAME_EXCHANGE) == 0;
+}
+
+/* Another program was faster, by an instant: its file gets the name again. */
+static int give_back(const struct place *place, char **temporary) {
+    if (exchange(*temporary, place->path)) {
+        return another_file(place->name, place->path);
+    }
+    complain(place->name, "another program has put a file at %s meanwhile, which is %s now", place->path, *temporary);
+    free(*temporary);
+    *temporary = NULL;
+    return STATUS_SYSTEM;
+}
+
+/* What another program has put there stays. Where the file system cannot exchange names, an instant between look and
+ * rename is left. */
+static int put_in_place(const struct place *place, char **temporary) {
+    if (!names_file(place->path, place->file)) {
+        return errno == 0 ? another_file(place->name, place->path) : not_written(place, place->path, older_one);
+    }
+    if (exchange(*temporary, place->path)) {
+        return names_file(*temporary, place->file) ? STATUS_DONE : give_back(place, temporary);
+    }
+    bool known = errno != EINVAL && errno != ENOSYS;
+    return !known && rename(*temporary, place->path) == 0 ? STATUS_DONE : not_written(place, place->path, older_one);
+}
+
+/* With the rights of the older one. The temporary name has by then the older picture, the new one or nothing. */
 static int replace_older(const struct place *place, const struct bytes *picture) {
     struct rights rights;
     char *temporary = read_rights(place->file, &rights) ? write_temporary(place, place->path, picture, &rights) : NULL;
     if (temporary == NULL) {
         return not_written(place, place->path, older_one);
     }
-    int status = put_in_place(place, temporary);
-    if (status != STATUS_DONE) {
+    int status = put_in_place(place, &temporary);
+    if (temporary != NULL) {
         unlink(temporary);
     }
     free(temporary);
@@ -74,7 +96,7 @@ static int save_at(struct place *place, const struct bytes *picture) {
     }
     if (status == STATUS_DONE) {
         status = place->exists ? replace_older(place, picture)
-                               : write_new(place, place->path, picture, "there is no picture");
+                               : write_new(place, place->path, picture, "there is no picture", another_file);
     }
     return status == STATUS_DONE ? sync_folder(place) : status;
 }

@@ -30,8 +30,9 @@ enum {
 uint64_t crownhazel_position(const uint8_t *journal, size_t journal_len, const uint8_t *key, size_t key_len,
                              uint64_t first, uint64_t last, int64_t *table, size_t table_len);
 
-/* The new balance of an entry of a sound journal, without testing it again: ask crownhazel_used first. Entries are
- * numbered from 1; 0 where there is no such entry. Of a journal that is not sound it says what stands there. */
+/* The new balance of an entry of a sound journal, without testing it: crownhazel_position tests it, and crownhazel_used
+ * in the collector's archive. Entries are numbered from 1; 0 where there is no such entry. Of a journal that is not
+ * sound it says what stands there. */
 int64_t crownhazel_balance(const uint8_t *journal, size_t journal_len, uint64_t entry);
 
 /* The day so many days after a day; 0 where either is not a day from 1980 to 2079. */
