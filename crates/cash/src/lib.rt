@@ -24,6 +24,17 @@ ghost use Rattle.cash.specs.Answers.{Positions, PositionNumber, Balance,
 use framing::Form;
 use journal::Holding;
 
+// Days of the longest span.
+const MOST_DAYS: u32 = 400;
+
+// The number of the last day of all, and what no day has for an ordinal: the number of all days.
+const LAST_DAY: u64 = 20791231;
+
+const ALL_DAYS: u32 = 36525;
+
+// Bytes of a record.
+const RECORD: usize = 120;
+
 // How many days were filled; or a refusal's number and record.
 pub enum Outcome {
     Filled { days: u64 },
@@ -55,8 +66,8 @@ fn add_body(table: &mut [i64], first: u32, body: &[u8])
     requires { ⌜ Adding (now table) first (now body) ⌝ }
     ensures { λ _. ⌜ ((s : Statement) → Reads july plain (now (body .entry)) (s ∷ []) → now (table .exit) ≡ filled first (now (table .entry)) (datedIn s)) ⌝ }
 {
-    let mut at: usize = 120;
-    while at + 120 < body.len() {
+    let mut at: usize = RECORD;
+    while at + RECORD < body.len() {
         let step = readers::movement_step(body, Form { line_end: 0 }, at);
         let m = fields::valued_at(contents::record_at(body, at));
         let i = place(first, dates::ordinal(m.value));
@@ -128,8 +139,8 @@ fn row(table: &mut [i64], balance: i64, first: u32, journal: &[u8], count: u64, 
 fn ordinal_of(day: u64) -> u32
     ensures { λ r. ⌜ r ≡ ordinalOf day ⌝ }
 {
-    if 20791231 < day {
-        return 36525;
+    if LAST_DAY < day {
+        return ALL_DAYS;
     }
     dates::ordinal(day as u32)
 }
@@ -139,18 +150,18 @@ fn span(first: u64, last: u64) -> u64
     ensures { λ r. ⌜ r ≡ spanOf first last ⌝ }
 {
     let a = ordinal_of(first);
-    if 36525 <= a {
+    if ALL_DAYS <= a {
         return 0;
     }
     let z = ordinal_of(last);
-    if 36525 <= z {
+    if ALL_DAYS <= z {
         return 0;
     }
     if z < a {
         return 0;
     }
     let n = z - a + 1;
-    if 400 < n {
+    if MOST_DAYS < n {
         return 0;
     }
     n as u64
@@ -263,10 +274,10 @@ pub extern "C" fn crownhazel_day(day: u64, after: u64) -> u64
     ensures { λ r. ⌜ DayAfter day after r ⌝ }
 {
     let n = ordinal_of(day);
-    if 36525 <= n {
+    if ALL_DAYS <= n {
         return 0;
     }
-    if 36525 <= after {
+    if ALL_DAYS as u64 <= after {
         return 0;
     }
     dates::of_ordinal(n + after as u32) as u64

@@ -6,6 +6,9 @@ ghost use Rattle.dates.specs.Days.{yearOf, isLeap, daysIn, exists as exi
 ghost use Rattle.dates.specs.Ordinals.{beforeMonth};
 ghost use Rattle.dates.specs.Answers.{Read, IsDay, Put, Ordinal, OfOrdinal};
 
+// The days from 1980 to 2079, and what no day has for an ordinal.
+const ALL_DAYS: u32 = 36525;
+
 pub enum Date {
     Day(u32),
     NoDay,
@@ -163,7 +166,7 @@ pub fn ordinal(k: u32) -> u32
     ensures { λ r. ⌜ Ordinal k r ⌝ }
 {
     if !is_day(k) {
-        return 36525;
+        return ALL_DAYS;
     }
     let n = k as u64;
     let y = n / 10000 - 1980;
@@ -175,7 +178,7 @@ pub fn ordinal(k: u32) -> u32
 pub fn of_ordinal(n: u32) -> u32
     ensures { λ r. ⌜ OfOrdinal n r ⌝ }
 {
-    if n >= 36525 {
+    if n >= ALL_DAYS {
         return 0;
     }
     let w = n as u64;

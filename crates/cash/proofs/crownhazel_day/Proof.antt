@@ -13,6 +13,9 @@ ordinal-of-requires c κs = search needs
 returns : tie.Need-returns
 returns c = record { answer = after-none _ _ (omega (arith, c .if1 .taken, c .before .ordinal-of .ensures)) }
 
+cast-if2 : tie.Need-cast-if2
+cast-if2 c = search needs
+
 returns-2 : tie.Need-returns-2
 returns-2 c = record { answer = after-all _ _ (omega (arith, c .before .if1 .left, c .before .before .ordinal-of .ensures)) (c .if2 .taken) }
 
@@ -37,6 +40,7 @@ crownhazel-day-spec =
     (tie.spec
     ordinal-of-requires
     returns
+    cast-if2
     returns-2
     cast-of-ordinal
     add-of-ordinal
