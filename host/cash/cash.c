@@ -14,9 +14,8 @@
 #include <string.h>
 #include <time.h>
 
-#include "cases.h"
+#include "answers.h"
 #include "cash.h"
-#include "crownhazel.h"
 
 enum {
     MOST_JOURNAL = 1 << 24,  /* bytes of a journal in a case */
@@ -42,26 +41,6 @@ static void take_journal(struct source *source) {
     take(source, journals.slice.first, used);
     memset(journals.slice.first + used, ' ', journals.slice.length - used);
     keep(&journals);
-}
-
-/* An answer in the paper's numbers. Two more values of a case are 0 here and passed over. */
-struct answer {
-    uint32_t kind, number, record, days;
-};
-
-static struct answer take_answer(struct source *source) {
-    struct answer answer;
-    answer.kind = (uint32_t)take_number(source, 1);
-    answer.number = (uint32_t)take_number(source, 4);
-    answer.record = (uint32_t)take_number(source, 4);
-    answer.days = (uint32_t)take_number(source, 4);
-    take_number(source, 8);
-    return answer;
-}
-
-/* The one number that says this answer. */
-static uint64_t packed(struct answer answer) {
-    return (uint64_t)answer.kind << 60 | (uint64_t)answer.number << 20 | answer.record | answer.days;
 }
 
 static void print_answer(const char *word, uint64_t answer) {
@@ -96,7 +75,7 @@ static bool are_amounts(const struct place *place, size_t count) {
     return true;
 }
 
-/* One call. Only the amounts expected may change. */
+/* One call; a of its answer is the number of days. Only the amounts expected may change. */
 static bool ask_position(const struct place *place, uint64_t first, uint64_t last, struct answer expected,
                          unsigned way) {
     unsigned journal_ways = ways(journals.slice);
@@ -109,8 +88,8 @@ static bool ask_position(const struct place *place, uint64_t first, uint64_t las
                                         lent(keys.slice, way % input_ways / journal_ways), keys.slice.length, first,
                                         last, table, tables.slice.length / sizeof *table);
     bool same = is_answer(place, packed(expected), came);
-    same &= are_amounts(place, expected.days);
-    same &= is_untouched(place, &tables, expected.days * sizeof *table);
+    same &= are_amounts(place, expected.a);
+    same &= is_untouched(place, &tables, expected.a * sizeof *table);
     same &= is_untouched(place, &keys, 0);
     same &= is_untouched(place, &journals, 0);
     return same;
@@ -125,11 +104,11 @@ static bool run_position(struct source *source, const struct place *place) {
     size_t rows = take_length(source, 8, MOST_ROWS);
     tables.slice = lend(tables.shelf, rows * sizeof(int64_t));
     struct answer expected = take_answer(source);
-    if (expected.days > rows) {
+    if (expected.a > rows) {
         fault(source, "expects more days than its table has");
         return false;
     }
-    take(source, (uint8_t *)amounts, expected.days * sizeof(int64_t));
+    take(source, (uint8_t *)amounts, expected.a * sizeof(int64_t));
     unsigned all = ways(journals.slice) * ways(keys.slice) * ways(tables.slice);
     for (unsigned way = 0; way < all && !source->broken; way++) {
         same &= ask_position(place, first, last, expected, way);

@@ -11,8 +11,7 @@
 #include <stdlib.h>
 #include <string.h>
 
-#include "cases.h"
-#include "crownhazel.h"
+#include "answers.h"
 
 enum {
     MOST_FILE = 1 << 22,    /* bytes of a file in a case */
@@ -28,29 +27,6 @@ static uint8_t *file_copy;
 
 static struct slice take_file(struct source *source) {
     return take_bytes(source, files, MOST_FILE);
-}
-
-/* An answer in the paper's numbers. What a, b and c are depends on the call. */
-struct answer {
-    uint32_t kind, number, record, a, b, c;
-};
-
-static struct answer take_answer(struct source *source) {
-    struct answer answer;
-    answer.kind = (uint32_t)take_number(source, 1);
-    answer.number = (uint32_t)take_number(source, 4);
-    answer.record = (uint32_t)take_number(source, 4);
-    answer.a = (uint32_t)take_number(source, 4);
-    answer.b = (uint32_t)take_number(source, 4);
-    answer.c = (uint32_t)take_number(source, 4);
-    return answer;
-}
-
-/* The one number that says this answer. */
-static uint64_t packed(struct answer answer) {
-    uint64_t a = answer.kind == CROWNHAZEL_REFUSED ? answer.record : answer.a;
-    uint64_t b = answer.kind == CROWNHAZEL_REFUSED ? answer.number : answer.b;
-    return a | b << 20 | (uint64_t)answer.c << 40 | (uint64_t)answer.kind << 60;
 }
 
 /* The answer that the header takes out of a number. */

@@ -1,7 +1,7 @@
 -- The loops that fill the table: the movements of a body, and the entries of a journal.
 use mathlib.Core.Path.{_≡_, refl, sym, ap, _∙_}
 use mathlib.Core.Bool.{Bool, true, false}
-use mathlib.Core.List.{List, [], _∷_, _++_, map, append-assoc, append-nil}
+use mathlib.Core.List.{List, [], _∷_, _++_, map, append-assoc, append-nil, map-append}
 use Prim.Native.Nat.{ℕ, zero, suc, _+_, _-_, _*_, _^_, _<_, _≤_}
 use native.Mathlib.Nat.{not-suc-le-zero}
 use native.Mathlib.Decide.{decLt}
@@ -41,6 +41,7 @@ use Rattle.contents.proofs.Moving.{row-held}
 use Rattle.bodies.specs.Bodies.{plain}
 use Rattle.bodies.proofs.Ends.{length-part}
 use Rattle.journal_layout.specs.Chains.{ofAccount}
+use Rattle.journal_layout.proofs.Chain.{account-append}
 use Rattle.journal.specs.Arrivals.{movementsIn}
 use Rattle.journal.specs.Newest.{keySize, keyFrom}
 use Rattle.journal.specs.Holdings.{bodyIn, ofAccountIn}
@@ -215,24 +216,10 @@ module _ {b : List ℕ} {s : Statement} (r : Reads july plain b (s ∷ [])) (t :
 
 -- ---- the entries
 
-account-append : (k : Key) (ss ts : List Statement) → ofAccount k (ss ++ ts) ≡ ofAccount k ss ++ ofAccount k ts
-unfolding ofAccount
-account-append k [] ts = refl
-account-append k (s ∷ ss) ts = by (sameKey (s .key) k) (account-append k ss ts)
-  where
-    by : (t : Bool) → ofAccount k (ss ++ ts) ≡ ofAccount k ss ++ ofAccount k ts
-        → pick t (s ∷ ofAccount k (ss ++ ts)) (ofAccount k (ss ++ ts)) ≡ pick t (s ∷ ofAccount k ss) (ofAccount k ss) ++ ofAccount k ts
-    by true e = ap (λ l. s ∷ l) e
-    by false e = e
-
 movements-append : (ss ts : List Statement) → movementsIn (ss ++ ts) ≡ movementsIn ss ++ movementsIn ts
 unfolding movementsIn
 movements-append [] ts = refl
 movements-append (s ∷ ss) ts = ap (λ l. s .movements ++ l) (movements-append ss ts) ∙ sym (append-assoc (s .movements) (movementsIn ss) (movementsIn ts))
-
-map-append : {A B : Type 0} (f : A → B) (xs ys : List A) → map f (xs ++ ys) ≡ map f xs ++ map f ys
-map-append f [] ys = refl
-map-append f (x ∷ xs) ys = ap (λ l. f x ∷ l) (map-append f xs ys)
 
 abbrev datedOf : Key → List Statement → List Valued
 datedOf k ss = map dated (movementsOf k ss)

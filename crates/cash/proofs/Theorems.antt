@@ -6,7 +6,7 @@ use Prim.Native.Nat.{ℕ, zero, suc, _+_, _-_, _^_, _<_, _≤_}
 use native.Mathlib.Nat.{le-of-suc-le-suc, not-suc-le-zero}
 use native.Mathlib.Omega.{arith}
 use lib.Dec.{eqb, ltb}
-use lib.ListN.{length, getD, drop, length-map}
+use lib.ListN.{length, getD, drop, length-map, List·getD-append}
 use lib.Seq.{drop-at}
 use lib.IntN.{ℤ, pos, natAbs, _-ℤ_}
 use borrow.Author.Tests.{eq-eqb, eqb-true, lt-ltb}
@@ -145,11 +145,6 @@ unfolding daysFrom
 length-days k zero = refl
 length-days k (suc n) = ap suc (length-days (nextDay k) n)
 
-append-at : (xs ys : List ℤ) (i : ℕ) → i < length xs → getD (xs ++ ys) i (pos 0) ≡ getD xs i (pos 0)
-append-at [] ys i h = absurd (not-suc-le-zero h)
-append-at (x ∷ xs) ys zero h = refl
-append-at (x ∷ xs) ys (suc i) h = append-at xs ys i (le-of-suc-le-suc h)
-
 map-at : (f : ℕ → ℤ) (l : List ℕ) (i : ℕ) → i < length l → getD (map f l) i (pos 0) ≡ f (getD l i 0)
 map-at f [] i h = absurd (not-suc-le-zero h)
 map-at f (x ∷ l) zero h = refl
@@ -178,7 +173,7 @@ module _ {j x : List ℕ} {first last : ℕ} {t : List ℤ} {n : ℕ} {t′ : Li
       let d : getD (daysFrom first n) i 0 ≡ laterDay first i =
       day-at first n i (s .day) (omega (arith, s .many, s .order, ordinal-below last (s .day′))) h ∙ sym (rw (s .day)) in
       ap (λ l. getD l i (pos 0)) table-is
-      ∙ append-at (amountsOf (keyFrom x) (heldOf j) first n) (drop n t) i (omega (arith, h, length-amounts))
+      ∙ List·getD-append (amountsOf (keyFrom x) (heldOf j) first n) (drop n t) (pos 0) i (omega (arith, h, length-amounts))
       ∙ day-there first n i (s .day) d (λ day. balanceAt (keyFrom x) day (heldOf j)) h
 
   -- a row less the row before it is the sum of the movements valued on its day

@@ -56,9 +56,10 @@ fn place(first: u32, day: u32) -> usize
     ensures { λ r. ⌜ r ≡ day - first ⌝ }
 {
     if day < first {
-        return 0;
+        0
+    } else {
+        (day - first) as usize
     }
-    (day - first) as usize
 }
 
 // Every movement of a body, at its day. The last record is the 07; before it stand movements, one after another.

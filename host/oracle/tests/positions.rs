@@ -1,10 +1,12 @@
 //! The balance in value on generated journals against a second formulation: for each day the sum
 //! of all movements, read by this test's own code. The file for the replay is read back.
 
+mod asked;
 mod replays;
 
 use std::collections::{BTreeMap, BTreeSet};
 
+use asked::{asked, UNTOUCHED};
 use oracle::cash::{balance, day, position};
 use oracle::cash_cases::{big_account, replay_positions, some_book, Question, POSITIONS};
 use oracle::journal::is_sound;
@@ -14,7 +16,6 @@ use oracle::rng::Rng;
 use replays::{mistaken, oracle, path, same_by_command, Reader};
 
 const TABLE: usize = 7_680;
-const UNTOUCHED: i64 = i64::MIN;
 
 /// The records of the statements of an account, in the order of a sound journal's entries.
 fn statements<'a>(journal: &'a [u8], key: &[u8]) -> Vec<Vec<&'a [u8]>> {
@@ -78,18 +79,6 @@ fn by_sums(
         i64::try_from(old + sum).unwrap()
     };
     Ok((first..=last).map(until).collect())
-}
-
-/// The answer and the table after a call.
-fn asked(
-    journal: &[u8],
-    key: &[u8],
-    (first, last): (u64, u64),
-    rows: usize,
-) -> (Result<u64, Refusal>, Vec<i64>) {
-    let mut table = vec![UNTOUCHED; rows];
-    let answer = position(journal, key, first, last, &mut table);
-    (answer, table)
 }
 
 /// The answer and the table that such amounts, or such a refusal, ask for.

@@ -1,31 +1,18 @@
 //! The balance in value day by day, point by point, and the two small questions beside it.
 
+use crate::asked::{asked, UNTOUCHED};
 use crate::common::{balance as balance_record, movement, Sheet};
 use crate::shelf::{
     accounts, april, b, blank, february, journal, march, of_account, three_months, with, KEY, KEY_B,
 };
-use oracle::cash::{balance, day, position};
+use oracle::cash::{balance, day};
 use oracle::delivery::deliver;
 use oracle::journal::open;
 use oracle::read::Refusal;
 use oracle::record::date_number;
 
-/// What stands in a table before a call.
-const UNTOUCHED: i64 = -7;
 /// The largest amount of 14 digits.
 const MOST: i64 = 99_999_999_999_999;
-
-/// Asks with a table of that length. Gives the answer and the table after it.
-fn asked(
-    journal: &[u8],
-    key: &[u8],
-    (first, last): (u64, u64),
-    length: usize,
-) -> (Result<u64, Refusal>, Vec<i64>) {
-    let mut table = vec![UNTOUCHED; length];
-    let answer = position(journal, key, first, last, &mut table);
-    (answer, table)
-}
 
 /// The amounts of a span of the worked account, in a table of just their number.
 fn amounts(journal: &[u8], first: u64, last: u64) -> Vec<i64> {

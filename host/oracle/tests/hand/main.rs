@@ -1,5 +1,7 @@
 //! Hand-built files with answers derived from the text.
 
+#[path = "../asked/mod.rs"]
+mod asked;
 mod cash;
 mod command;
 mod common;
