@@ -1,6 +1,6 @@
 -- The definition of an amount at each return of `read`.
 use mathlib.Core.Path.{_≡_, sym, _∙_}
-use mathlib.Core.Bool.{Bool, true, false, _&&_, not, and-false}
+use mathlib.Core.Bool.{Bool, true, false, and-false}
 use mathlib.Core.List.{List}
 use Prim.Native.Nat.{ℕ, _+_, _*_, _%_}
 use native.Mathlib.Omega.{arith}
@@ -26,7 +26,7 @@ module _ (s : List ℕ) where
 
   -- the thirteen digits and the sign, as the code has them
   pub read-whole : (k n : ℕ) {r : Bool} → length s ≡ 14 → Tested digit (take 13 s) r → r ≡ true → k ≡ signIndex (getD s 13 0) → Number (take 13 s) n
-      → (t : Bool) → (ltb k 20 && not (leb 10 k && eqb (n * 10 + k % 10) 0)) ≡ t
+      → (t : Bool) → ltb k 20 ≡ t
       → pick t (Value (signedOf (leb 10 k) (n * 10 + k % 10))) NoAmount ≡ amountOf s
   unfolding amountOf signOf isDebit magnitude
   read-whole k n l d e p q t g =

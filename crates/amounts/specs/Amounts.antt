@@ -1,12 +1,13 @@
 -- Amounts: thirteen digits, then a sign character.
 use Prim.Native.Nat.{ℕ, suc, _+_, _*_, _/_, _%_}
-use mathlib.Core.Bool.{Bool, true, false, _&&_, not}
+use mathlib.Core.Bool.{Bool, true, false, _&&_}
 use mathlib.Core.List.{List, [], _∷_, _++_}
 use lib.Dec.{leb, ltb, eqb}
 use lib.ListN.{length, getD, take}
 use lib.IntN.{ℤ, pos, negsuc, negℤ, natAbs}
 use Rattle.zones.specs.Choice.{pick}
 use Rattle.zones.specs.Class.{digit, all}
+use Rattle.zones.specs.Copy.{sameBytes}
 use Rattle.zones.specs.Number.{valueOf, digitsOf}
 use Rattle.zones.specs.Text.{bytes}
 use Rattle.amounts.specs.declared.Amount.{Amount}
@@ -39,10 +40,9 @@ abbrev pub signedOf : Bool → ℕ → ℤ
 signedOf true m = negℤ (pos m)
 signedOf false m = pos m
 
--- fourteen bytes, thirteen digits, one of the twenty signs, and no debit zero (H)
+-- fourteen bytes, thirteen digits, one of the twenty signs
 abbrev pub isAmount : List ℕ → Bool
-isAmount s =
-    (eqb (length s) 14 && all digit (take 13 s)) && (ltb (signOf s) 20 && not (isDebit s && eqb (magnitude s) 0))
+isAmount s = (eqb (length s) 14 && all digit (take 13 s)) && ltb (signOf s) 20
 
 unfoldable pub amountOf : List ℕ → Amount
 amountOf s = pick (isAmount s) (Value (signedOf (isDebit s) (magnitude s))) NoAmount
@@ -75,6 +75,17 @@ signedText debit m = digitsOf 13 (m / 10) ++ (signByte debit (m % 10) ∷ [])
 -- the fourteen bytes of a value; zero is a credit
 abbrev pub amountText : ℤ → List ℕ
 amountText v = signedText (isNegative v) (natAbs v)
+
+-- zero as a debit, which is read, and as a credit, which is written
+abbrev pub debitZero : List ℕ
+debitZero = bytes "0000000000000}"
+
+abbrev pub creditZero : List ℕ
+creditZero = bytes "0000000000000{"
+
+-- an amount's bytes as they are written: a debit zero as a credit, all others as they stand
+unfoldable pub asWritten : List ℕ → List ℕ
+asWritten s = pick (sameBytes s debitZero) creditZero s
 
 -- a value that has an amount goes into a part of fourteen bytes
 abbrev pub canPut : ℤ → List ℕ → Bool

@@ -39,7 +39,7 @@ fn signed(debit: bool, m: u64) -> i64
     m as i64
 }
 
-// The amount in fourteen bytes. Other lengths, other bytes and a debit zero are none.
+// The amount in fourteen bytes. Other lengths and other bytes are none. A debit zero is zero.
 pub fn read(s: &[u8]) -> Amount
     ensures { λ r. ⌜ Read (now (s .entry)) r ⌝ }
 {
@@ -51,7 +51,7 @@ pub fn read(s: &[u8]) -> Amount
     }
     let k = sign_index(s[13]);
     let m = zones::number(&s[0..13]) * 10 + (k % 10) as u64;
-    if (k < 20) & !((10 <= k) & (m == 0)) {
+    if k < 20 {
         return Amount::Value(signed(10 <= k, m));
     }
     Amount::NoAmount

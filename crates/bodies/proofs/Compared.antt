@@ -21,7 +21,7 @@ abbrev pub recordIn : ℕ → List ℕ → List ℕ
 recordIn p b = take (p + recordSize - p) (drop p b)
 
 -- it is the record of the piece there
-record-of-piece : (w p : ℕ) (b : List ℕ) → recordSize ≤ w → take recordSize (take (p + w - p) (drop p b)) ≡ recordIn p b
+pub record-of-piece : (w p : ℕ) (b : List ℕ) → recordSize ≤ w → take recordSize (take (p + w - p) (drop p b)) ≡ recordIn p b
 record-of-piece w p b h = rw (add-sub-cancel-left p w, add-sub-cancel-left p recordSize) (take-take recordSize w (drop p b) h)
 
 -- so many records of both from two places on

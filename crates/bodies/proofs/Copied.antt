@@ -13,6 +13,7 @@ use Rattle.framing.specs.declared.Form.{Form}
 use Rattle.framing.specs.Files.{lineEnd, widthOf, chunks}
 use Rattle.records.specs.July.{recordSize}
 use Rattle.bodies.specs.Bodies.{kept, keptRows, bodyIn, bodyPut}
+use Rattle.bodies.proofs.Ends.{length-kept}
 
 -- one piece more
 chunks-snoc : (w i : ℕ) (b : List ℕ) → chunks w (suc i) b ≡ chunks w i b ++ (take w (drop (i * w) b) ∷ [])
@@ -28,13 +29,14 @@ rows-append [] qs = refl
 rows-append (p ∷ ps) qs = rw (rows-append ps qs) (sym (append-assoc (kept (take recordSize p)) (keptRows ps) (keptRows qs)))
 
 length-rows : (w i : ℕ) (b : List ℕ) → recordSize ≤ w → i * w ≤ length b → length (keptRows (chunks w i b)) ≡ recordSize * i
-unfolding keptRows chunks kept
+unfolding keptRows chunks
 length-rows w zero b h l = refl
 length-rows w (suc i) b h l =
     let e = suc-mul i w in
     let r : length (take recordSize (take w b)) ≡ recordSize = length-take-le recordSize (take w b) (rw (length-take-le w b (omega arith)) h) in
-    length-append (take recordSize (take w b)) (keptRows (chunks w i (drop w b)))
-    ∙ omega (arith, r, length-rows w i (drop w b) h (omega (arith, length-drop w b)))
+    let k = length-kept (take recordSize (take w b)) r in
+    length-append (kept (take recordSize (take w b))) (keptRows (chunks w i (drop w b)))
+    ∙ omega (arith, k, length-rows w i (drop w b) h (omega (arith, length-drop w b)))
 
 module _ (w count : ℕ) (b dst : List ℕ) where
   -- i records are copied

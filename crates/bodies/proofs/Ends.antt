@@ -1,4 +1,4 @@
--- The first and the last record of a statement, whatever its line ends: what is written there, and what it holds.
+-- The first and the last record of a statement, whatever its line ends: how it is kept, and what it holds.
 use mathlib.Core.Path.{_≡_, sym, ap, _∙_}
 use mathlib.Core.List.{List, [], _∷_}
 use Prim.Native.Nat.{ℕ, _+_, _-_, _*_}
@@ -14,13 +14,19 @@ use Rattle.grammar.specs.Statements.{Statement, sizes, allRecords}
 use Rattle.grammar.specs.Files.{Reads}
 use Rattle.grammar.specs.Parts.{sizeOf, recordsBefore}
 use Rattle.grammar.proofs.Rows.{all-cons}
-use Rattle.records.specs.July.{recordSize, july, july2004}
+use Rattle.records.specs.July.{recordSize, july, july2004, canonRecord}
+use Rattle.records.proofs.Lawful.{july-lawful}
 use Rattle.readers.proofs.Movements.{before, rest}
 use Rattle.readers.proofs.Turns.{after-last}
 use Rattle.contents.specs.Heads.{recordAtOf}
-use Rattle.contents.proofs.Records.{HoldsAt, record-there, record-written}
+use Rattle.contents.proofs.Records.{HoldsAt, record-there, record-kept}
 use Rattle.contents.proofs.Heading.{Balance, opened, closed}
-use Rattle.bodies.specs.Bodies.{openingText, closingText, closingIn}
+use Rattle.bodies.specs.Bodies.{kept, openingText, closingText, closingIn}
+
+-- a record is as long as it is kept
+pub length-kept : (r : List ℕ) → length r ≡ recordSize → length (kept r) ≡ recordSize
+unfolding kept
+length-kept r l = july-lawful .alike r l .sized ∙ l
 
 module _ {f : Form} {b : List ℕ} {s : Statement} (r : Reads july f b (s ∷ [])) where
   abbrev w : ℕ
@@ -31,13 +37,13 @@ module _ {f : Form} {b : List ℕ} {s : Statement} (r : Reads july f b (s ∷ []
   unfolding recordsBefore
   length-part = sym (after-last r) ∙ ap (λ (n : ℕ). n * w) (omega arith)
 
-  -- its first record is its 01
-  pub opening-written : recordAtOf b 0 ≡ openingText s
-  unfolding openingText
-  opening-written = rw (zero-mul w) at (record-written r 0 (all-cons july2004 s []))
-
+  -- its first record is its 01, kept as it is written
   first-held : HoldsAt b 0 (opening (s .key) (s .old-date) (s .old-balance))
   first-held = rw (zero-mul w) at (record-there r 0 (all-cons july2004 s []))
+
+  pub opening-written : kept (recordAtOf b 0) ≡ openingText s
+  unfolding openingText kept
+  opening-written = record-kept first-held
 
   pub opening-there : Balance (recordAtOf b 0) (s .key) (s .old-date) (s .old-balance)
   opening-there = opened _ (first-held .values)
@@ -45,7 +51,7 @@ module _ {f : Form} {b : List ℕ} {s : Statement} (r : Reads july f b (s ∷ []
   abbrev records-before-last : ℕ
   records-before-last = before r 0 (omega arith) (length (s .movements))
 
-  -- its last record is its 07
+  -- its last record is its 07, kept as it is written
   last-record : drop records-before-last (allRecords july2004 (s ∷ []))
       ≡ closing (s .key) (s .new-date) (s .new-balance) ∷ rest r 0 (omega arith) (length (s .movements)) .0
   last-record = rest r 0 (omega arith) (length (s .movements)) .1 ∙ rw (drop-length (s .movements))
@@ -61,12 +67,12 @@ module _ {f : Form} {b : List ℕ} {s : Statement} (r : Reads july f b (s ∷ []
   unfolding closingIn
   last-found = rw (r .line, le-ltb (length b) w (omega (arith, length-part, add-mul (sizes (s .movements)) 2 w)))
 
-  pub closing-written : closingIn f b ≡ closingText s
-  unfolding closingText
-  closing-written = last-found ∙ rw last-place (record-written r records-before-last last-record)
-
   last-held : HoldsAt b (length b - w) (closing (s .key) (s .new-date) (s .new-balance))
   last-held = rw last-place (record-there r records-before-last last-record)
+
+  pub closing-written : kept (closingIn f b) ≡ closingText s
+  unfolding closingText kept
+  closing-written = ap canonRecord last-found ∙ record-kept last-held
 
   pub closing-there : Balance (closingIn f b) (s .key) (s .new-date) (s .new-balance)
   closing-there = rw last-found (closed _ (last-held .values))

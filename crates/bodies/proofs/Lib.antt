@@ -3,4 +3,5 @@ pub mod Single
 pub mod Ends
 pub mod Identical
 pub mod Copied
+pub mod Zeros
 pub mod One

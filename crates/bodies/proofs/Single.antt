@@ -1,6 +1,6 @@
--- A body that is accepted alone: the statement that it reads as.
+-- A body that stands alone: the statement that it is the body of.
 use mathlib.Core.Path.{_≡_, refl, sym, ap, ap₂, _∙_}
-use mathlib.Core.Bool.{true, false}
+use mathlib.Core.Bool.{Bool, true, false, _&&_}
 use mathlib.Core.List.{List, [], _∷_, map, append-nil}
 use Prim.Native.Nat.{ℕ, _*_, _≤_}
 use native.Mathlib.Omega.{arith}
@@ -8,32 +8,43 @@ use lib.Dec.{eqb}
 use lib.ListN.{length, length-map, getD}
 use borrow.Author.Tests.{eqb-true}
 use Rattle.zones.specs.Pieces.{flat}
+use Rattle.zones.proofs.Bools.{and-left, and-right, both, conj}
 use Rattle.framing.specs.declared.Form.{Form}
 use Rattle.framing.specs.Files.{endOf, widthOf, pieceOf, fileOf}
 use Rattle.framing.proofs.Cuts.{length-flat}
 use Rattle.grammar.specs.Answer.{Answer, accepted, refused}
 use Rattle.grammar.specs.Record.{Rec}
 use Rattle.grammar.specs.Statements.{Statement, recordsOf}
-use Rattle.grammar.specs.Files.{checkOf, layoutOf, Reads, statementsOf, Writable}
+use Rattle.grammar.specs.Files.{pieces, checkOf, layoutOf, Gives, Reads, statementsOf, Writable}
 use Rattle.grammar.specs.Parts.{sizeOf, nothing}
 use Rattle.grammar.proofs.Parts.{length-one}
 use Rattle.grammar.proofs.Seam.{piecesFor, wide-pieces}
+use Rattle.grammar.proofs.Exact.{gives-reads}
 use Rattle.grammar.proofs.Trips.{one-records}
-use Rattle.records.specs.July.{recordSize, mostInStatement, july, july2004, encodeRecord}
+use Rattle.records.specs.July.{recordSize, mostInStatement, july, july2004, encodeRecord, noDebitZero}
 use Rattle.records.proofs.Lawful.{july-lawful}
-use Rattle.records.proofs.Theorems.{unique, counts, reads, writable}
+use Rattle.records.proofs.Theorems.{unique, counts, reads, own-file, writable}
 use Rattle.statements.specs.declared.Checked.the-variants as C
 use Rattle.statements.specs.Answers.{checkedOf}
-use Rattle.bodies.specs.Bodies.{plain, kept, bodyOf, countsOne, single, statementOf}
+use Rattle.bodies.specs.Bodies.{plain, bodyOf, countsOne, single, statementOf}
 
 -- at the code's returns
-pub counted : (a : Answer) {s m c : ℕ} → C.Accepted s m c ≡ checkedOf a → eqb s 1 ≡ countsOne a
+counted : (a : Answer) {s m c : ℕ} → C.Accepted s m c ≡ checkedOf a → eqb s 1 ≡ countsOne a
 counted (accepted x) e = cc
 counted (refused n r) e = absurd (let z : _≡_ {A = ℕ} 0 1 = cc in omega arith)
 
-pub not-counted : (a : Answer) {n r : ℕ} → C.Refused n r ≡ checkedOf a → false ≡ countsOne a
+not-counted : (a : Answer) {n r : ℕ} → C.Refused n r ≡ checkedOf a → countsOne a ≡ false
 not-counted (accepted x) e = absurd (let z : _≡_ {A = ℕ} 0 1 = cc in omega arith)
 not-counted (refused n r) e = refl
+
+module _ (b : List ℕ) where
+  pub judged : {s m c : ℕ} {t : Bool} → C.Accepted s m c ≡ checkedOf (checkOf july plain b) → t ≡ noDebitZero (pieces july plain b) → (eqb s 1 && t) ≡ single b
+  unfolding single
+  judged e d = conj (counted (checkOf july plain b) e) d
+
+  pub refused-alone : {n r : ℕ} → C.Refused n r ≡ checkedOf (checkOf july plain b) → false ≡ single b
+  unfolding single
+  refused-alone e = sym (rw (not-counted (checkOf july plain b) e))
 
 -- the test is passed exactly by the files of one statement, and this is it
 one-of : (ss : List Statement) → length ss ≡ 1 → ss ≡ getD ss 0 nothing ∷ []
@@ -43,7 +54,7 @@ one-of (s ∷ t ∷ ss) e = absurd (omega arith)
 
 pub single-reads : (b : List ℕ) → single b ≡ true → Reads july plain b (statementOf b ∷ [])
 unfolding single statementOf
-single-reads b h = by (checkOf july plain b) refl h
+single-reads b h = by (checkOf july plain b) refl (and-left (countsOne (checkOf july plain b)) _ h)
   where
     by : (a : Answer) → checkOf july plain b ≡ a → countsOne a ≡ true → Reads july plain b (getD (statementsOf july plain b) 0 nothing ∷ [])
     by (accepted c) e g =
@@ -55,36 +66,34 @@ single-reads b h = by (checkOf july plain b) refl h
         rw (← one-of (statementsOf july plain b) n) r
     by (refused n k) e g = absurd (let z : _≡_ {A = ℕ} 0 1 = cc in omega arith)
 
-module _ {b : List ℕ} {s : Statement} (r : Reads july plain b (s ∷ [])) where
-  pub reads-single : single b ≡ true
-  unfolding single
-  reads-single = rw (counts r)
-
-  pub reads-statement : statementOf b ≡ s
-  unfolding statementOf
-  reads-statement = let q = unique (reads plain b (counts r)) r in rw q
+pub reads-statement : {b : List ℕ} {s : Statement} → Reads july plain b (s ∷ []) → statementOf b ≡ s
+unfolding statementOf
+reads-statement {b} r = let q = unique (reads plain b (counts r)) r in rw q
 
 -- a statement that some file reads as can be written
 pub reads-writable : {f : Form} {b : List ℕ} {s : Statement} → Reads july f b (s ∷ []) → Writable july s
 reads-writable {f} {b} {s} r = writable s .0 (f, (b, r))
 
--- records are kept as they are, with nothing after them
-kept-all : (rs : List Rec) → map kept (map encodeRecord rs) ≡ piecesFor july plain rs
-unfolding kept endOf
-kept-all [] = refl
-kept-all (r ∷ rs) = ap₂ _∷_ (sym (append-nil (encodeRecord r))) (kept-all rs)
+-- the body of a statement is the file without line ends that it gives
+unended : (rs : List Rec) → map encodeRecord rs ≡ piecesFor july plain rs
+unfolding endOf
+unended [] = refl
+unended (r ∷ rs) = ap₂ _∷_ (sym (append-nil (encodeRecord r))) (unended rs)
 
 body-layout : (s : Statement) → bodyOf s ≡ layoutOf july plain (s ∷ [])
 unfolding bodyOf layoutOf fileOf
-body-layout s = ap flat (kept-all (recordsOf july2004 s) ∙ ap (piecesFor july plain) (sym (one-records july2004 s)))
+body-layout s = ap flat (unended (recordsOf july2004 s) ∙ ap (piecesFor july plain) (sym (one-records july2004 s)))
 
-pub reads-body : {b : List ℕ} {s : Statement} → Reads july plain b (s ∷ []) → b ≡ bodyOf s
-reads-body {b} {s} r = sym (body-layout s ∙ r .layout)
+-- a body that stands alone is that of its statement
+pub single-body : (b : List ℕ) → single b ≡ true → b ≡ bodyOf (statementOf b)
+unfolding single
+single-body b h =
+    sym (body-layout (statementOf b) ∙ (single-reads b h .layout ∙ own-file plain b .1 (and-right (countsOne (checkOf july plain b)) _ h)))
 
 module _ {s : Statement} (w : Writable july s) where
-  -- the body is a file of exactly this statement
-  pub body-reads : Reads july plain (bodyOf s) (s ∷ [])
-  body-reads =
+  -- the body is given by exactly this statement
+  body-given : Gives july plain (bodyOf s) (s ∷ [])
+  body-given =
       record {
         line = refl;
         valid = (w .valid, tt);
@@ -93,11 +102,26 @@ module _ {s : Statement} (w : Writable july s) where
         few = rw (one-records july2004 s) (w .few);
       }
 
+  -- so it is a file of it
+  pub body-reads : Reads july plain (bodyOf s) (s ∷ [])
+  body-reads = gives-reads july july-lawful body-given
+
+  -- without a debit zero
+  pub body-own : noDebitZero (pieces july plain (bodyOf s)) ≡ true
+  body-own = own-file plain (bodyOf s) .0 (sym (body-reads .layout) ∙ sym (body-layout s))
+
+  -- and stands alone
+  pub body-single : single (bodyOf s) ≡ true
+  unfolding single
+  body-single =
+      let n : countsOne (checkOf july plain (bodyOf s)) ≡ true = rw (counts body-reads) in
+      both n body-own
+
   pub length-body : length (bodyOf s) ≡ sizeOf s * recordSize
   unfolding bodyOf widthOf
   length-body =
       let rs = recordsOf july2004 s in
-      ap (λ l. length (flat l)) (kept-all rs)
+      ap (λ l. length (flat l)) (unended rs)
       ∙ length-flat recordSize (piecesFor july plain rs) (wide-pieces july plain july-lawful refl rs (w .ok))
       ∙ ap (λ (n : ℕ). n * recordSize) (length-map (map encodeRecord rs) (pieceOf plain) ∙ length-map rs encodeRecord ∙ length-one july2004 s)
 

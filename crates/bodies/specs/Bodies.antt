@@ -1,4 +1,4 @@
--- A statement as the journal keeps it: its records without line ends, one after another.
+-- A statement as the journal keeps it: its records as the writer would write them, without line ends, one after another.
 use mathlib.Core.Bool.{Bool, true, false, _&&_, _||_}
 use mathlib.Core.List.{List, [], _∷_, _++_, map}
 use Prim.Native.Nat.{ℕ, _-_, _*_}
@@ -14,20 +14,20 @@ use Rattle.grammar.specs.Record.{opening, closing}
 use Rattle.grammar.specs.Statements.{Statement, recordsOf}
 use Rattle.grammar.specs.Files.{statementsOf, checkOf}
 use Rattle.grammar.specs.Parts.{nothing}
-use Rattle.records.specs.July.{recordSize, july, july2004, encodeRecord}
+use Rattle.records.specs.July.{recordSize, july, july2004, encodeRecord, canonRecord, noDebitZero}
 use Rattle.contents.specs.Heads.{recordAtOf}
 
 -- a file without line ends
 abbrev pub plain : Form
 plain = record { «line_end» = 0 }
 
--- the form in which the journal keeps a record
+-- the form in which the journal keeps a record: as it is written
 unfoldable pub kept : List ℕ → List ℕ
-kept r = r
+kept r = canonRecord r
 
 -- the body of a statement
 unfoldable pub bodyOf : Statement → List ℕ
-bodyOf s = flat (map kept (map encodeRecord (recordsOf july2004 s)))
+bodyOf s = flat (map encodeRecord (recordsOf july2004 s))
 
 -- two statements with identical records
 unfoldable pub identical : Statement → Statement → Bool
@@ -40,13 +40,14 @@ openingText s = encodeRecord (opening (s .key) (s .old-date) (s .old-balance))
 unfoldable pub closingText : Statement → List ℕ
 closingText s = encodeRecord (closing (s .key) (s .new-date) (s .new-balance))
 
--- Accepted alone, and exactly one statement.
+-- accepted, and exactly one statement
 abbrev pub countsOne : Answer → Bool
 countsOne (accepted c) = eqb (c .statements) 1
 countsOne (refused n r) = false
 
+-- a body stands alone: as a file it is one statement, and it has no debit zero
 unfoldable pub single : List ℕ → Bool
-single b = countsOne (checkOf july plain b)
+single b = countsOne (checkOf july plain b) && noDebitZero (piecesOf recordSize plain b)
 
 -- the statement that a body reads as
 unfoldable pub statementOf : List ℕ → Statement

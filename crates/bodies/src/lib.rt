@@ -1,16 +1,44 @@
-// A statement as the journal keeps it: its records without line ends. Two statements are compared, and one is copied, record by record.
+// A statement as the journal keeps it: its records as the writer would write them, without line ends. Two statements are compared, and one is copied, record by record.
 ghost use mathlib.Core.Path.{_≡_};
 ghost use Prim.Native.Nat.{_*_, _≤_};
 ghost use lib.ListN.{length, drop};
 ghost use mathlib.Core.List.{_++_};
-ghost use Rattle.records.specs.July.{recordSize};
-ghost use Rattle.framing.specs.Files.{chunks};
-ghost use Rattle.bodies.specs.Bodies.{kept, sameRecord, sameRows, keptRows};
+ghost use Rattle.records.specs.July.{recordSize, hasDebitZero, noDebitZero};
+ghost use Rattle.framing.specs.Files.{chunks, piecesOf};
+ghost use Rattle.bodies.specs.Bodies.{plain, kept, sameRecord, sameRows, keptRows};
 ghost use Rattle.bodies.specs.Answers.{IsSingle, SameRecords, ClosingOf, PutBody};
 use framing::Form;
 use statements::Checked;
 
-// Whether a body is accepted alone, and is exactly one statement.
+// Whether a debit zero stands where an 01, 04 or 07 has its amount. Most records are told by their last digit alone.
+fn has_debit_zero(r: &[u8]) -> bool
+    requires { ⌜ length (now r) ≡ recordSize ⌝ }
+    ensures { λ t. ⌜ t ≡ hasDebitZero (now (r .entry)) ⌝ }
+{
+    if r[103] != b'}' {
+        return false;
+    }
+    !zones::same(b"05", &r[0..2]) & zones::same(&r[90..104], b"0000000000000}")
+}
+
+// Whether no record of a body has a debit zero.
+fn no_debit_zero(body: &[u8]) -> bool
+    ensures { λ t. ⌜ t ≡ noDebitZero (piecesOf recordSize plain (now (body .entry))) ⌝ }
+{
+    let mut left = body.len() / 120;
+    let mut p: usize = 0;
+    while 0 < left {
+        let z = p + 120;
+        if has_debit_zero(&body[p..z]) {
+            return false;
+        }
+        p = z;
+        left -= 1;
+    }
+    true
+}
+
+// Whether a body is accepted alone, is exactly one statement, and has no debit zero.
 pub fn is_single(body: &[u8]) -> bool
     ensures { λ t. ⌜ IsSingle (now (body .entry)) t ⌝ }
 {
@@ -19,7 +47,7 @@ pub fn is_single(body: &[u8]) -> bool
             statements,
             movements: _,
             complements: _,
-        } => statements == 1,
+        } => (statements == 1) & no_debit_zero(body),
         Checked::Refused {
             number: _,
             record: _,
@@ -27,11 +55,33 @@ pub fn is_single(body: &[u8]) -> bool
     }
 }
 
-// Whether two records are kept alike.
+// A record as it is kept.
+fn put_record(dst: &mut [u8], r: &[u8])
+    requires { ⌜ (length (now dst) ≡ recordSize) × (length (now r) ≡ recordSize) ⌝ }
+    ensures { λ _. ⌜ now (dst .exit) ≡ kept (now (r .entry)) ⌝ }
+{
+    zones::put(dst, r);
+    if has_debit_zero(r) {
+        dst[103] = b'{';
+    }
+}
+
+// Whether two records are kept alike. Those that differ can be only where one has a debit zero.
 fn same_record(a: &[u8], b: &[u8]) -> bool
+    requires { ⌜ (length (now a) ≡ recordSize) × (length (now b) ≡ recordSize) ⌝ }
     ensures { λ t. ⌜ t ≡ sameRecord (now (a .entry)) (now (b .entry)) ⌝ }
 {
-    zones::same(a, b)
+    if zones::same(a, b) {
+        return true;
+    }
+    if !has_debit_zero(a) & !has_debit_zero(b) {
+        return false;
+    }
+    let mut x = [0u8; 120];
+    let mut y = [0u8; 120];
+    put_record(&mut x, a);
+    put_record(&mut y, b);
+    zones::same(&x, &y)
 }
 
 // So many records of one part and of another, v and w bytes from one to the next.
@@ -86,14 +136,6 @@ pub fn closing_of(form: Form, part: &[u8]) -> &[u8]
         return &part[..0];
     }
     contents::record_at(part, part.len() - width)
-}
-
-// A record as it is kept.
-fn put_record(dst: &mut [u8], r: &[u8])
-    requires { ⌜ (length (now dst) ≡ recordSize) × (length (now r) ≡ recordSize) ⌝ }
-    ensures { λ _. ⌜ now (dst .exit) ≡ kept (now (r .entry)) ⌝ }
-{
-    zones::put(dst, r);
 }
 
 // So many records of a part, width bytes from one to the next, into the first lines of a buffer.

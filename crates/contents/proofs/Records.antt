@@ -1,25 +1,27 @@
 -- A record of an accepted file, found at its place.
 use mathlib.Core.Path.{_≡_, refl, sym, ap, _∙_}
 use mathlib.Core.Bool.{Bool, true, false}
-use mathlib.Core.List.{List, [], _∷_, _++_, append-assoc}
+use mathlib.Core.List.{List, [], _∷_, map}
 use Prim.Native.Nat.{ℕ, _+_, _-_, _*_, _<_, _≤_}
 use native.Mathlib.Nat.{add-sub-cancel-left}
 use native.Mathlib.Omega.{arith}
 use lib.Dec.{ltb}
 use lib.ListN.{length, take, drop, length-drop, length-append}
-use lib.Seq.{take-at}
+use lib.Seq.{take-append-le, length-take-le}
 use borrow.Author.Tests.{lt-ltb, le-ltb, ltb-false}
 use Rattle.zones.specs.Choice.{pick}
 use Rattle.zones.specs.Pieces.{flat}
 use Rattle.framing.specs.declared.Form.{Form}
-use Rattle.framing.specs.Files.{All, widthOf, endOf}
+use Rattle.framing.specs.Files.{All, widthOf}
+use Rattle.framing.proofs.Cuts.{Wide}
 use Rattle.grammar.specs.Record.{Rec}
 use Rattle.grammar.specs.Statements.{Statement, allRecords}
-use Rattle.grammar.specs.Files.{Reads}
-use Rattle.grammar.proofs.Seam.{piecesFor}
-use Rattle.records.specs.July.{recordSize, Holds, july, july2004, decodeRecord, encodeRecord}
+use Rattle.grammar.specs.Files.{recOf, pieces, Reads, Fine}
+use Rattle.grammar.proofs.Parts.{all-drop}
+use Rattle.grammar.proofs.Canonical.{wide-all}
+use Rattle.records.specs.July.{recordSize, Holds, july, july2004, decodeRecord, canonRecord, encodeRecord}
 use Rattle.records.proofs.Lawful.{july-lawful}
-use Rattle.readers.proofs.Rows.{ok-from, from-record}
+use Rattle.readers.proofs.Rows.{ok-from, from-record, records-from, fine-from}
 use Rattle.contents.specs.Heads.{recordAtOf}
 
 -- as the code comes to it
@@ -39,6 +41,7 @@ cut-out b at h p = rw (add-sub-cancel-left at 120) (sym (rw (le-ltb (length b) (
 pub record HoldsAt (b : List ℕ) (at : ℕ) (x : Rec) : Type 0 where
   pub whole : length (recordAtOf b at) ≡ recordSize
   pub values : decodeRecord (recordAtOf b at) ≡ x
+  pub fine : Fine july (recordAtOf b at)
 
 -- a whole record lies in the file
 pub whole-inside : (b : List ℕ) (at : ℕ) → length (recordAtOf b at) ≡ recordSize → at + recordSize ≤ length b
@@ -54,21 +57,23 @@ module _ {f : Form} {b : List ℕ} {ss : List Statement} (r : Reads july f b ss)
   holds-there : (n : ℕ) {x : Rec} {l : List Rec} → drop n (allRecords july2004 ss) ≡ x ∷ l → Holds x
   holds-there n {x} {l} e = let o : All Holds (x ∷ l) = rw e at (ok-from r n) in o .0
 
-  -- record n, from 0, as it is written
-  pub record-written : (n : ℕ) {x : Rec} {l : List Rec} → drop n (allRecords july2004 ss) ≡ x ∷ l → recordAtOf b (n * widthOf recordSize f) ≡ encodeRecord x
-  unfolding recordAtOf flat
-  record-written n {x} {l} e =
-      let at = n * widthOf recordSize f in
-      let c = encodeRecord x in
-      let t = endOf f ++ flat (piecesFor july f l) in
-      let q : drop at b ≡ c ++ t = from-record r n ∙ rw e (append-assoc c (endOf f) (flat (piecesFor july f l))) in
-      let z : length c ≡ recordSize = july-lawful .wide x (holds-there n e) in
-      let i : length (drop at b) ≡ length c + length t = ap length q ∙ length-append c t in
-      rw (le-ltb (length b) (at + recordSize) (omega (arith, length-drop at b))) (ap (take recordSize) q ∙ take-at c t recordSize z)
-
-  -- its values
+  -- record n, from 0: its values
   pub record-there : (n : ℕ) {x : Rec} {l : List Rec} → drop n (allRecords july2004 ss) ≡ x ∷ l → HoldsAt b (n * widthOf recordSize f) x
-  record-there n {x} e =
-      let u = record-written n e in
-      let o = holds-there n e in
-      record { whole = ap length u ∙ july-lawful .wide x o; values = ap decodeRecord u ∙ july-lawful .same x o }
+  unfolding recordAtOf flat widthOf
+  record-there n {x} {l} e = go (drop n (pieces july f b)) (records-from r n ∙ e) (all-drop _ n (pieces july f b) (wide-all july july-lawful f b)) (fine-from r n) (from-record r n)
+    where
+      go : (ps : List (List ℕ)) → map (recOf july) ps ≡ x ∷ l → Wide (widthOf recordSize f) ps → All (λ p. Fine july (take recordSize p)) ps → drop (n * widthOf recordSize f) b ≡ flat ps
+          → HoldsAt b (n * widthOf recordSize f) x
+      go [] d w o q = absurd (let z : _≡_ {A = ℕ} 0 1 = cc in omega arith)
+      go (p ∷ ps) d w o q =
+          let at = n * widthOf recordSize f in
+          let i : length (drop at b) ≡ length p + length (flat ps) = ap length q ∙ length-append p (flat ps) in
+          let h : recordSize ≤ length p = omega (arith, w .0) in
+          let u : recordAtOf b at ≡ take recordSize p =
+          rw (le-ltb (length b) (at + recordSize) (omega (arith, length-drop at b))) (ap (take recordSize) q ∙ take-append-le recordSize p (flat ps) h) in
+          let v : recOf july p ≡ x = cc in
+          record { whole = ap length u ∙ length-take-le recordSize p h; values = ap decodeRecord u ∙ v; fine = rw u (o .0) }
+
+-- the record at a place as it is written
+pub record-kept : {b : List ℕ} {at : ℕ} {x : Rec} → HoldsAt b at x → canonRecord (recordAtOf b at) ≡ encodeRecord x
+record-kept {b} {at} h = sym (july-lawful .again (recordAtOf b at) (h .whole) (h .fine)) ∙ ap encodeRecord (h .values)

@@ -15,8 +15,11 @@ use Rattle.zones.specs.Number.{valueOf, digitsOf}
 use Rattle.zones.specs.Pieces.{flat}
 use Rattle.zones.proofs.Decimal.{length-digits, value-digits, digits-all}
 use Rattle.zones.proofs.Pasted.{pasted, filled, length-pieces}
-use Rattle.layouts.specs.Zone.{part}
-use Rattle.records.specs.July.{recordSize}
+use Rattle.dates.specs.Days.{dateOf}
+use Rattle.layouts.specs.Zone.{part, dayIn}
+use Rattle.records.specs.July.{recordSize, dateIn, canonRecord}
+use Rattle.records.proofs.Canon.{front-kept}
+use Rattle.records.proofs.Lawful.{july-lawful}
 use Rattle.entries.specs.declared.Entry.{Entry}
 use Rattle.entries.specs.Entries.{entrySize, keyText, datesText, placeText, entryText, entryPut, fieldsOf, mostEntries, noEntry, entryBytes, entryIn}
 
@@ -112,6 +115,31 @@ module _ (first n : ℕ) (o c : List ℕ) (h : length o ≡ recordSize) (k : len
   unfolding fieldsOf
   entry-read f m =
       rw (eq-eqb (length (entryText first n o c)) entrySize length-entry, count-begins, first-digits, count-digits, value-digits 6 first f, value-digits 4 n m)
+
+-- KEPT: an entry is the same of records as they are written; what it takes of them stands before their amounts
+key-kept : (o : List ℕ) → length o ≡ recordSize → keyText (canonRecord o) ≡ keyText o
+unfolding keyText
+key-kept o h =
+    let same : (a z : ℕ) → 1 ≤ a → a ≤ z → z ≤ 90 → part a z (canonRecord o) ≡ part a z o = front-kept o h in
+    rw (
+      same 3 7 (omega arith) (omega arith) (omega arith),
+      same 12 16 (omega arith) (omega arith) (omega arith),
+      same 17 19 (omega arith) (omega arith) (omega arith),
+      same 20 20 (omega arith) (omega arith) (omega arith),
+      same 22 32 (omega arith) (omega arith) (omega arith),
+    )
+
+date-kept : (o : List ℕ) → length o ≡ recordSize → part 35 40 (canonRecord o) ≡ part 35 40 o
+date-kept o h = front-kept o h 35 40 (omega arith) (omega arith) (omega arith)
+
+pub day-kept : (o : List ℕ) → length o ≡ recordSize → dateIn (canonRecord o) ≡ dateIn o
+day-kept o h = ap (λ d. dayIn (dateOf d)) (date-kept o h)
+
+pub entry-kept : (first n : ℕ) (o c x : List ℕ) → length o ≡ recordSize → length c ≡ recordSize
+    → entryPut first n (canonRecord o) (canonRecord c) x ≡ entryPut first n o c x
+unfolding entryPut entryText datesText
+entry-kept first n o c x h k =
+    rw (july-lawful .alike o h .sized, july-lawful .alike c k .sized, key-kept o h, date-kept o h, date-kept c k)
 
 -- at the code's returns
 pub fields-read : (x : List ℕ) {a b : ℕ} → length x ≡ entrySize → a ≡ valueOf (part 38 43 x) → b ≡ valueOf (part 44 47 x)

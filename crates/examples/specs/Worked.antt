@@ -38,7 +38,7 @@ worked =
     (amount "0000000010000{", value 100000)
     ∷ (amount "0000000000421P", minus 4216)
     ∷ (amount "0000000000000{", value 0)
-    ∷ (amount "0000000000000}", refused 8)
+    ∷ (amount "0000000000000}", value 0)
     ∷ (amount "9999999999999R", minus 99999999999998)
     ∷ (amount "00000000000005", refused 8)
     ∷ (date "290224", value 20240229)

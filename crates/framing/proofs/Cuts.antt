@@ -1,8 +1,8 @@
 -- Pieces of equal length and the whole: what is cut is what was put together, and the other way round.
 use mathlib.Core.Path.{_≡_, refl, sym, _∙_, ap, ap₂}
 use mathlib.Core.Bool.{Bool, true, false}
-use mathlib.Core.List.{List, [], _∷_, _++_}
-use Prim.Native.Nat.{ℕ, zero, suc, _+_, _*_}
+use mathlib.Core.List.{List, [], _∷_, _++_, append-assoc, append-nil}
+use Prim.Native.Nat.{ℕ, zero, suc, _+_, _*_, _≤_}
 use native.Mathlib.Nat.{suc-mul, zero-mul}
 use native.Mathlib.Omega.{arith}
 use lib.Dec.{eqb}
@@ -33,11 +33,17 @@ abbrev pub Wide : ℕ → List (List ℕ) → Type 0
 Wide w ps = All (λ p. length p ≡ w) ps
 
 module _ (w : ℕ) where
+  -- pieces put together, with a rest behind them, and cut again are the same pieces
+  pub chunks-flat-then : (ps : List (List ℕ)) (x : List ℕ) → Wide w ps → chunks w (length ps) (flat ps ++ x) ≡ ps
+  unfolding chunks flat
+  chunks-flat-then [] x l = refl
+  chunks-flat-then (p ∷ ps) x l =
+      rw (append-assoc p (flat ps) x)
+      (ap₂ _∷_ (take-at p (flat ps ++ x) w (l .0)) (rw (drop-at p (flat ps ++ x) w (l .0)) (chunks-flat-then ps x (l .1))))
+
   -- pieces put together and cut again are the same pieces
   pub chunks-flat : (ps : List (List ℕ)) → Wide w ps → chunks w (length ps) (flat ps) ≡ ps
-  unfolding chunks flat
-  chunks-flat [] l = refl
-  chunks-flat (p ∷ ps) l = ap₂ _∷_ (take-at p (flat ps) w (l .0)) (rw (drop-at p (flat ps) w (l .0)) (chunks-flat ps (l .1)))
+  chunks-flat ps l = rw append-nil at (chunks-flat-then ps [] l)
 
   -- whole pieces are as long as their number says
   pub length-flat : (ps : List (List ℕ)) → Wide w ps → length (flat ps) ≡ length ps * w
@@ -53,8 +59,17 @@ module _ (w : ℕ) where
   flat-chunks (suc m) b h =
       ap (λ l. take w b ++ l) (flat-chunks m (drop w b) (omega (arith, length-drop w b, suc-mul m w))) ∙ take-append-drop w b
 
-  -- where nothing is left over, every piece is whole
-  pub wide-chunks : (m : ℕ) (b : List ℕ) → length b ≡ m * w → Wide w (chunks w m b)
+  -- bytes cut and put together again, with what is left over, are the same bytes
+  pub flat-chunks-then : (m : ℕ) (b : List ℕ) → m * w ≤ length b → flat (chunks w m b) ++ drop (m * w) b ≡ b
+  unfolding chunks flat
+  flat-chunks-then zero b h = rw (zero-mul w)
+  flat-chunks-then (suc m) b h =
+      let e : suc m * w ≡ w + m * w = omega (arith, suc-mul m w) in
+      rw (append-assoc, e, ← drop-drop (m * w) w b)
+      (ap (λ l. take w b ++ l) (flat-chunks-then m (drop w b) (omega (arith, length-drop w b))) ∙ take-append-drop w b)
+
+  -- as many pieces as the bytes are long enough for are whole
+  pub wide-chunks : (m : ℕ) (b : List ℕ) → m * w ≤ length b → Wide w (chunks w m b)
   unfolding chunks
   wide-chunks zero b h = tt
   wide-chunks (suc m) b h =

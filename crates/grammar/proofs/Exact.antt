@@ -2,27 +2,30 @@
 use mathlib.Core.Path.{_≡_, refl, sym, _∙_, ap}
 use mathlib.Core.Logic.{_↔_}
 use mathlib.Core.Bool.{Bool, true, false, not}
-use mathlib.Core.List.{List, map}
+use mathlib.Core.List.{List, [], _∷_, map, append-nil}
 use Prim.Native.Nat.{ℕ, _*_, _%_, _≤_}
 use native.Mathlib.Nat.{mul-div-cancel, mul-mod-left, div-add-mod'}
 use native.Mathlib.Omega.{arith}
-use lib.ListN.{length, length-map}
+use lib.ListN.{length, take, length-map, drop-of-length-le}
 use borrow.Author.Tests.{not-false, eq-eqb, eqb-true, le-ltb, ltb-false}
 use Rattle.zones.specs.Choice.{pick}
+use Rattle.zones.specs.Pieces.{flat}
 use Rattle.framing.specs.declared.Form.{Form}
 use Rattle.framing.specs.Files.{All, widthOf, countOf, unknownEnd, uneven, tooMany, fileOf}
-use Rattle.framing.proofs.Cuts.{chunks-flat, length-flat, flat-chunks, wide-chunks, length-chunks}
+use Rattle.framing.proofs.Cuts.{chunks-flat, length-flat, flat-chunks, length-chunks}
 use Rattle.grammar.specs.Answer.{Counts, Answer, accepted, refused}
 use Rattle.grammar.specs.Machine.{after}
+use Rattle.grammar.specs.Record.{Rec}
 use Rattle.grammar.specs.Rules.{out, isOut, start, recs}
-use Rattle.grammar.specs.Statements.{Statement, allRecords, countsOf, back}
-use Rattle.grammar.specs.Files.{Coding, Lawful, layoutOf, Reads, recOf, pieces, statementsOf, files, checkOf}
+use Rattle.grammar.specs.Statements.{Statement, Valid, allRecords, countsOf, back}
+use Rattle.grammar.specs.Files.{Coding, Fine, Lawful, recOf, pieces, canonPiece, canonical, layoutOf, Gives, Reads, statementsOf, files, checkOf}
 use Rattle.grammar.proofs.Runs.{never, ran, runs}
 use Rattle.grammar.proofs.Rows.{back-all, tally-all}
 use Rattle.grammar.proofs.Sound.{sound}
 use Rattle.grammar.proofs.Full.{full}
 use Rattle.grammar.proofs.Since.{counts-after}
-use Rattle.grammar.proofs.Seam.{after-same, piecesFor, down, recs-pieces, wide-pieces, up}
+use Rattle.grammar.proofs.Seam.{after-same, piecesFor, down, bodies-pieces, canon-pieces, recs-pieces, wide-pieces, up}
+use Rattle.grammar.proofs.Canonical.{bodies-canon, fine-canon, recs-canon, canonical-flat, wide-all, length-canonical, pieces-canonical, check-canonical, statements-canonical}
 
 -- an accepted answer did not come from a refusal
 passed : (t : Bool) (k : ℕ) (a : Answer) {c : Counts} → pick t (refused k 0) a ≡ accepted c → (t ≡ false) × (a ≡ accepted c)
@@ -51,10 +54,23 @@ module _ (C : Coding) (L : Lawful C) where
         let e : countOf (C .size) f (layoutOf C f ss) ≡ length ps = count-layout ∙ simp length-map in
         rw e (chunks-flat (widthOf (C .size) f) ps (wide-pieces C f L line (allRecords (C .edition) ss) ok))
 
-  -- a list of statements that the file reads as gives its answer
-  pub counts : {f : Form} {b : List ℕ} {ss : List Statement} → Reads C f b ss → checkOf C f b ≡ accepted (countsOf ss)
+    -- a layout is its own canonical form
+    pub canonical-layout : canonical C f (layoutOf C f ss) ≡ layoutOf C f ss
+    unfolding layoutOf fileOf
+    canonical-layout =
+        let rs = allRecords (C .edition) ss in
+        canonical-flat C L f (piecesFor C f rs) (wide-pieces C f L line rs ok) ∙ ap flat (canon-pieces C f L rs ok)
+
+  -- so the layout of valid statements within the limits reads as them
+  pub layout-reads : {f : Form} {ss : List Statement} → unknownEnd f ≡ false → All (Valid (C .edition)) ss → All (C .Ok) (allRecords (C .edition) ss)
+      → length (allRecords (C .edition) ss) ≤ C .edition .mostInFile → Reads C f (layoutOf C f ss) ss
+  layout-reads {f} {ss} line valid ok few =
+      record { line = line; valid = valid; ok = ok; layout = sym (canonical-layout f ss line ok); few = few }
+
+  -- the answer on the layout of a list of statements
+  counts-layout : {f : Form} {b : List ℕ} {ss : List Statement} → Reads C f b ss → checkOf C f (layoutOf C f ss) ≡ accepted (countsOf ss)
   unfolding checkOf
-  counts {f} {b} {ss} r =
+  counts-layout {f} {b} {ss} r =
       let rs = allRecords (C .edition) ss in
       let ps = piecesFor C f rs in
       let z : length (layoutOf C f ss) % widthOf (C .size) f ≡ 0 =
@@ -65,23 +81,66 @@ module _ (C : Coding) (L : Lawful C) where
       let g = full (C .edition) ss (r .valid) .at-any _ in
       let e : after (files C f) start ps ≡ after (recs (C .edition)) start rs =
       after-same C f ps start ∙ ap (after (recs (C .edition)) start) (recs-pieces C f L rs (r .ok)) in
-      rw (← r .layout)
-      (rw (r .line, even, few, pieces-layout f ss (r .line) (r .ok))
+      rw (r .line, even, few, pieces-layout f ss (r .line) (r .ok))
       (runs (files C f) ps 0 start (record { clean = up C f L rs start (r .ok) (g .clean); closed = rw e (g .closed) })
-      ∙ ap accepted (ap (λ s. s .counts) e ∙ counts-after (C .edition) rs ∙ tally-all (C .edition) ss)))
+      ∙ ap accepted (ap (λ s. s .counts) e ∙ counts-after (C .edition) rs ∙ tally-all (C .edition) ss))
+
+  -- a list of statements that the file reads as gives its answer
+  pub counts : {f : Form} {b : List ℕ} {ss : List Statement} → Reads C f b ss → checkOf C f b ≡ accepted (countsOf ss)
+  counts {f} {b} r = sym (check-canonical C L f b) ∙ ap (checkOf C f) (sym (r .layout)) ∙ counts-layout r
+
+  -- the pieces of such a file, as they are written, are those of the records
+  pub reads-pieces : {f : Form} {b : List ℕ} {ss : List Statement} → Reads C f b ss
+      → map (canonPiece C) (pieces C f b) ≡ piecesFor C f (allRecords (C .edition) ss)
+  reads-pieces {f} {b} {ss} r = sym (pieces-canonical C L f b) ∙ ap (pieces C f) (sym (r .layout)) ∙ pieces-layout f ss (r .line) (r .ok)
+
+  -- so each record, as it is written, is the written record of its number
+  pub reads-rows : {f : Form} {b : List ℕ} {ss : List Statement} → Reads C f b ss
+      → map (λ p. C .canon (take (C .size) p)) (pieces C f b) ≡ map (C .encode) (allRecords (C .edition) ss)
+  reads-rows {f} {b} {ss} r =
+      sym (bodies-canon C L f (pieces C f b) (wide-all C L f b))
+      ∙ ap (map (take (C .size))) (reads-pieces r)
+      ∙ bodies-pieces C f L (allRecords (C .edition) ss) (r .ok)
+
+  -- each holds the values of its number
+  pub reads-records : {f : Form} {b : List ℕ} {ss : List Statement} → Reads C f b ss
+      → map (recOf C) (pieces C f b) ≡ allRecords (C .edition) ss
+  reads-records {f} {b} {ss} r =
+      sym (recs-canon C L f (pieces C f b) (wide-all C L f b))
+      ∙ ap (map (recOf C)) (reads-pieces r)
+      ∙ recs-pieces C f L (allRecords (C .edition) ss) (r .ok)
+
+  -- and no rule on its bytes alone applies to it
+  pub reads-fine : {f : Form} {b : List ℕ} {ss : List Statement} → Reads C f b ss → All (λ p. Fine C (take (C .size) p)) (pieces C f b)
+  reads-fine {f} {b} {ss} r =
+      fine-canon C L f (pieces C f b) (wide-all C L f b) (rw (reads-rows r) (each (allRecords (C .edition) ss) (r .ok)))
+    where
+      each : (rs : List Rec) → All (C .Ok) rs → All (Fine C) (map (C .encode) rs)
+      each [] o = tt
+      each (x ∷ rs) o = (L .fine x (o .0), each rs (o .1))
+
+  -- it is as long as the layout
+  pub reads-length : {f : Form} {b : List ℕ} {ss : List Statement} → Reads C f b ss
+      → length b ≡ length (allRecords (C .edition) ss) * widthOf (C .size) f
+  reads-length {f} {b} {ss} r = sym (length-canonical C L f b) ∙ ap length (sym (r .layout)) ∙ length-layout f ss (r .line) (r .ok)
+
+  -- and it is its pieces end to end
+  pub reads-flat : {f : Form} {b : List ℕ} {ss : List Statement} → Reads C f b ss → flat (pieces C f b) ≡ b
+  unfolding widthOf
+  reads-flat {f} {b} {ss} r =
+      let w = widthOf (C .size) f in
+      let l = reads-length r in
+      let n : countOf (C .size) f b ≡ length (allRecords (C .edition) ss) = rw l (mul-div-cancel _ (omega (arith, L .some))) in
+      flat-chunks w (countOf (C .size) f b) b (rw n l)
 
   -- and it is the one that `statementsOf` gives
   pub reads-same : {f : Form} {b : List ℕ} {ss : List Statement} → Reads C f b ss → statementsOf C f b ≡ ss
   unfolding statementsOf
-  reads-same {f} {b} {ss} r =
-      rw (← r .layout)
-      (ap (λ ps. back (map (recOf C) ps) .whole) (pieces-layout f ss (r .line) (r .ok))
-      ∙ ap (λ rs. back rs .whole) (recs-pieces C f L (allRecords (C .edition) ss) (r .ok))
-      ∙ back-all (C .edition) ss)
+  reads-same {f} {b} {ss} r = ap (λ rs. back rs .whole) (reads-records r) ∙ back-all (C .edition) ss
 
-  -- an accepted file is the layout of what `statementsOf` gives
+  -- an accepted file, as it is written, is the layout of what `statementsOf` gives
   pub reads : (f : Form) (b : List ℕ) {c : Counts} → checkOf C f b ≡ accepted c → Reads C f b (statementsOf C f b)
-  unfolding checkOf statementsOf layoutOf fileOf
+  unfolding checkOf statementsOf canonical layoutOf fileOf
   reads f b {c} e =
       let p = passed (unknownEnd f) 1 _ e in
       let q = passed (uneven (C .size) f b) 2 _ (p .1) in
@@ -90,14 +149,14 @@ module _ (C : Coding) (L : Lawful C) where
       let z : length b % widthOf (C .size) f ≡ 0 = eqb-true _ _ (not-false _ (q .0)) in
       let w : length b ≡ countOf (C .size) f b * widthOf (C .size) f = omega (arith, div-add-mod' (length b) (widthOf (C .size) f)) in
       let g = ran (files C f) ps 0 start (t .1) in
-      let d = down C f L ps start (wide-chunks (widthOf (C .size) f) (countOf (C .size) f b) b w) (g .clean) in
+      let d = down C f L ps start (wide-all C L f b) (g .clean) in
       let a : isOut (after (recs (C .edition)) start (map (recOf C) ps) .mode) ≡ true = rw (← after-same C f ps start) (g .closed) in
       let v = sound (C .edition) (map (recOf C) ps) _ out (d .clean) a in
       record {
         line = p .0;
         valid = v .0;
         ok = rw (v .1) (d .ok);
-        layout = rw (v .1, d .same) (flat-chunks (widthOf (C .size) f) (countOf (C .size) f b) b w);
+        layout = rw (v .1, d .same, drop-of-length-le b {i = countOf (C .size) f b * widthOf (C .size) f} (omega arith), append-nil);
         few = rw (v .1, length-map, length-chunks) (ltb-false _ _ (t .0));
       }
 
@@ -108,3 +167,37 @@ module _ (C : Coding) (L : Lawful C) where
   -- the list is unique
   pub unique : {f : Form} {b : List ℕ} {ss ts : List Statement} → Reads C f b ss → Reads C f b ts → ss ≡ ts
   unique r t = sym (reads-same r) ∙ reads-same t
+
+  -- a file and its canonical form read as the same statements
+  pub reads-canonical : {f : Form} {b : List ℕ} {ss : List Statement} → Reads C f b ss ↔ Reads C f (canonical C f b) ss
+  reads-canonical {f} {b} {ss} = (
+    (λ r. record {
+      line = r .line;
+      valid = r .valid;
+      ok = r .ok;
+      layout = sym (canonical-layout f ss (r .line) (r .ok)) ∙ ap (canonical C f) (r .layout);
+      few = r .few;
+    }),
+    (λ r. rw (sym (statements-canonical C L f b) ∙ reads-same r) at (reads f b (sym (check-canonical C L f b) ∙ counts r))),
+  )
+
+  -- and the one is accepted exactly if the other is
+  pub accepted-canonical : (f : Form) (b : List ℕ) (c : Counts) → (checkOf C f b ≡ accepted c) ↔ (checkOf C f (canonical C f b) ≡ accepted c)
+  accepted-canonical f b c = ((λ e. check-canonical C L f b ∙ e), (λ e. sym (check-canonical C L f b) ∙ e))
+
+  -- what some statements give reads as them
+  pub gives-reads : {f : Form} {b : List ℕ} {ss : List Statement} → Gives C f b ss → Reads C f b ss
+  gives-reads {f} g = rw (← g .layout) (layout-reads (g .line) (g .valid) (g .ok) (g .few))
+
+  -- what a file reads as gives the file with each record as it is written
+  pub written-given : {f : Form} {b : List ℕ} {ss : List Statement} → Reads C f b ss → Gives C f (canonical C f b) ss
+  written-given r = record { line = r .line; valid = r .valid; ok = r .ok; layout = r .layout; few = r .few }
+
+  -- and so the file itself where this is the same
+  pub reads-gives : {f : Form} {b : List ℕ} {ss : List Statement} → canonical C f b ≡ b → Reads C f b ss → Gives C f b ss
+  reads-gives o r = rw o at (written-given r)
+
+  -- so it is accepted exactly if some list of statements gives it
+  pub exact-own : (f : Form) (b : List ℕ) → canonical C f b ≡ b
+      → ((c : Counts) × (checkOf C f b ≡ accepted c)) ↔ ((ss : List Statement) × Gives C f b ss)
+  exact-own f b o = ((λ a. (statementsOf C f b, reads-gives o (reads f b (a .1)))), (λ g. (countsOf (g .0), counts (gives-reads (g .1)))))

@@ -7,6 +7,7 @@ pub mod Sound
 pub mod Full
 pub mod Since
 pub mod Seam
+pub mod Canonical
 pub mod After
 pub mod Exact
 pub mod Refusal

@@ -13,11 +13,12 @@ use Rattle.grammar.specs.declared.Key.{Key}
 use Rattle.grammar.specs.Answer.{accepted}
 use Rattle.grammar.specs.Record.{Rec, closing, Edition}
 use Rattle.grammar.specs.Statements.{Movement, Statement, Valid, sizes, recordsOf, allRecords, complementsIn, movementsOf, complementsOf}
-use Rattle.grammar.specs.Files.{Coding, Lawful, layoutOf, Reads, checkOf}
+use Rattle.grammar.specs.Files.{Coding, Lawful, pieces, canonPiece, canonical, layoutOf, Reads, checkOf}
 use Rattle.grammar.specs.Parts.{sizeOf, recordsBefore, nothing, partOf}
 use Rattle.grammar.proofs.Rows.{addsThen, movesThen, all-cons, counts-path}
-use Rattle.grammar.proofs.Seam.{piecesFor, wide-pieces}
-use Rattle.grammar.proofs.Exact.{counts, reads-same}
+use Rattle.grammar.proofs.Seam.{piecesFor}
+use Rattle.grammar.proofs.Canonical.{canonical-flat, wide-all}
+use Rattle.grammar.proofs.Exact.{counts, reads-pieces, reads-flat, reads-same}
 use Rattle.grammar.proofs.Trips.{one-records}
 
 module _ {A : Type 0} (P : A → Type 0) where
@@ -85,21 +86,27 @@ module _ (E : Edition) where
       (take-at (recordsOf E s) (allRecords E (drop (suc j) ss)) (sizeOf s) (length-one s) ∙ sym (one-records E s))
 
 module _ (C : Coding) (L : Lawful C) {f : Form} {b : List ℕ} {ss : List Statement} (r : Reads C f b ss) (j : ℕ) (h : j < length ss) where
-  -- the part is the layout of its statement
-  part-layout : layoutOf C f (getD ss j nothing ∷ []) ≡ partOf C f b (j + 1)
+  -- the part, as it is written, is the layout of its statement
+  part-layout : layoutOf C f (getD ss j nothing ∷ []) ≡ canonical C f (partOf C f b (j + 1))
   unfolding partOf layoutOf fileOf
   part-layout =
       let n = sizeOf (getD ss j nothing) in
       let m = recordsBefore j ss in
       let w = widthOf (C .size) f in
       let rs = allRecords (C .edition) ss in
-      let x = wide-pieces C f L (r .line) rs (r .ok) in
+      let ps = pieces C f b in
+      let x = all-drop (λ p. length p ≡ w) m ps (wide-all C L f b) in
       let e : j + 1 - 1 ≡ j = omega arith in
-      let g : take n (drop m (piecesFor C f rs)) ≡ piecesFor C f (take n (drop m rs)) = simp (map-drop, map-take) in
-      sym (rw (reads-same C L r, e, ← r .layout)
-      (ap (take (n * w)) (flat-drop w m (piecesFor C f rs) x)
-      ∙ flat-take w n (drop m (piecesFor C f rs)) (all-drop _ m (piecesFor C f rs) x)
-      ∙ ap flat (g ∙ ap (piecesFor C f) (part-records (C .edition) j ss h))))
+      let cut : partOf C f b (j + 1) ≡ flat (take n (drop m ps)) =
+      rw (reads-same C L r, e)
+      (ap (λ l. take (n * w) (drop (m * w) l)) (sym (reads-flat C L r))
+      ∙ ap (take (n * w)) (flat-drop w m ps (wide-all C L f b))
+      ∙ flat-take w n (drop m ps) x) in
+      let g : map (canonPiece C) (take n (drop m ps)) ≡ take n (drop m (map (canonPiece C) ps)) = simp (map-drop, map-take) in
+      let k : take n (drop m (piecesFor C f rs)) ≡ piecesFor C f (take n (drop m rs)) = simp (map-drop, map-take) in
+      sym (ap (canonical C f) cut
+      ∙ canonical-flat C L f (take n (drop m ps)) (all-take (λ p. length p ≡ w) n (drop m ps) x)
+      ∙ ap flat (g ∙ ap (λ l. take n (drop m l)) (reads-pieces C L r) ∙ k ∙ ap (piecesFor C f) (part-records (C .edition) j ss h)))
 
   -- the part is a file that reads as its statement alone
   pub part-reads : Reads C f (partOf C f b (j + 1)) (getD ss j nothing ∷ [])

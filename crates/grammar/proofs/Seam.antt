@@ -4,7 +4,7 @@ use mathlib.Core.Bool.{false, not}
 use mathlib.Core.List.{List, [], _∷_, _++_, map}
 use Prim.Native.Nat.{ℕ}
 use native.Mathlib.Omega.{arith}
-use lib.ListN.{length, take, drop, length-append, take-append-drop}
+use lib.ListN.{length, take, drop, length-append}
 use lib.Seq.{take-at, drop-at, length-take-le}
 use borrow.Author.Tests.{not-false}
 use Rattle.zones.proofs.Copies.{same-equal, equal-same}
@@ -15,10 +15,14 @@ use Rattle.grammar.specs.Answer.{firstOf}
 use Rattle.grammar.specs.Machine.{judgeOf, after}
 use Rattle.grammar.specs.Record.{Rec}
 use Rattle.grammar.specs.Rules.{Mode, State, taken, rules, recs}
-use Rattle.grammar.specs.Files.{Coding, Fine, Lawful, recOf, fileRules, files}
+use Rattle.grammar.specs.Files.{Coding, Fine, Lawful, recOf, canonPiece, fileRules, files}
 use Rattle.grammar.proofs.Tests.{off, of-off}
 use Rattle.grammar.proofs.Runs.{Clean}
 use Rattle.grammar.proofs.Quiet.{quiet, of-quiet}
+
+-- what is written is as it is written
+pub canon-encode : (C : Coding) → Lawful C → (r : Rec) → C .Ok r → C .canon (C .encode r) ≡ C .encode r
+canon-encode C L r o = sym (L .again (C .encode r) (L .wide r o) (L .fine r o)) ∙ ap (C .encode) (L .same r o)
 
 module _ (C : Coding) (f : Form) where
   -- the rules on a piece: its line end, its bytes, its record
@@ -67,11 +71,11 @@ module _ (C : Coding) (f : Form) where
   module _ (L : Lawful C) where
     -- from the bytes to the records
     pub record Down (s : State) (ps : List (List ℕ)) : Type 0 where
-      pub same : piecesFor (map (recOf C) ps) ≡ ps
+      pub same : piecesFor (map (recOf C) ps) ≡ map (canonPiece C) ps
       pub ok : All (C .Ok) (map (recOf C) ps)
       pub clean : Clean (recs (C .edition)) s (map (recOf C) ps)
 
-    -- clean pieces are those of their records, and these are clean
+    -- clean pieces, as they are written, are those of their records, and these are clean
     pub down : (ps : List (List ℕ)) (s : State) → Wide (widthOf (C .size) f) ps → Clean (files C f) s ps → Down s ps
     unfolding judgeOf widthOf
     down [] s w h = record { same = refl; ok = tt; clean = tt }
@@ -79,8 +83,8 @@ module _ (C : Coding) (f : Form) where
         let x = piece (s .mode) p (h .0) in
         let d = down ps (taken (C .edition) s (recOf C p)) (w .1) (h .1) in
         let l : length (take (C .size) p) ≡ C .size = length-take-le (C .size) p (omega (arith, w .0)) in
-        let e : C .encode (recOf C p) ++ endOf f ≡ p =
-        ap₂ _++_ (L .again (take (C .size) p) l (x .fine)) (sym (same-equal _ _ (not-false _ (x .ended)))) ∙ take-append-drop (C .size) p in
+        let e : C .encode (recOf C p) ++ endOf f ≡ canonPiece C p =
+        ap₂ _++_ (L .again (take (C .size) p) l (x .fine)) (sym (same-equal _ _ (not-false _ (x .ended)))) in
         record { same = ap₂ _∷_ e (d .same); ok = (L .ok (take (C .size) p) l (x .fine), d .ok); clean = (x .quiet, d .clean) }
 
     -- from the records to the bytes: the record of a piece
@@ -94,6 +98,20 @@ module _ (C : Coding) (f : Form) where
     -- the values of a piece
     rec-piece : (r : Rec) → C .Ok r → recOf C (pieceOf f (C .encode r)) ≡ r
     rec-piece r o = ap (C .decode) (body r o) ∙ L .same r o
+
+    -- the records of pieces as bytes
+    pub bodies-pieces : (rs : List Rec) → All (C .Ok) rs → map (take (C .size)) (piecesFor rs) ≡ map (C .encode) rs
+    bodies-pieces [] o = refl
+    bodies-pieces (r ∷ rs) o = ap₂ _∷_ (body r (o .0)) (bodies-pieces rs (o .1))
+
+    -- what is written is its own canonical form
+    canon-piece : (r : Rec) → C .Ok r → canonPiece C (pieceOf f (C .encode r)) ≡ pieceOf f (C .encode r)
+    canon-piece r o = rw (body r o, rest r o) (ap (λ l. l ++ endOf f) (canon-encode C L r o))
+
+    -- and so are the pieces of some records
+    pub canon-pieces : (rs : List Rec) → All (C .Ok) rs → map (canonPiece C) (piecesFor rs) ≡ piecesFor rs
+    canon-pieces [] o = refl
+    canon-pieces (r ∷ rs) o = ap₂ _∷_ (canon-piece r (o .0)) (canon-pieces rs (o .1))
 
     -- the records of their pieces
     pub recs-pieces : (rs : List Rec) → All (C .Ok) rs → map (recOf C) (piecesFor rs) ≡ rs

@@ -1,12 +1,14 @@
--- Demand 2 on a check: a file is accepted exactly if some list of statements, laid out by the rules, gives those bytes; the counts are that list's.
+-- Demand 2 on a check: a file in which each record stands as it is written is accepted exactly if some list of statements, laid out by the rules, gives
+-- those bytes; the counts are that list's. Any other file is answered as the file with each record as it is written.
 use mathlib.Core.Path.{_≡_}
 use mathlib.Core.List.{List}
 use Prim.Native.Nat.{ℕ}
 use Rattle.framing.specs.declared.Form.{Form}
 use Rattle.grammar.specs.Answer.{Counts, Answer, accepted}
 use Rattle.grammar.specs.Statements.{Statement, countsOf}
-use Rattle.grammar.specs.Files.{Coding, Reads}
+use Rattle.grammar.specs.Files.{Coding, canonical, Gives}
 
 pub record Demand2 (C : Coding) (check : Form → List ℕ → Answer) : Type 0 where
-  pub accepts : (f : Form) (b : List ℕ) (ss : List Statement) → Reads C f b ss → check f b ≡ accepted (countsOf ss)
-  pub only : (f : Form) (b : List ℕ) (c : Counts) → check f b ≡ accepted c → (ss : List Statement) × Reads C f b ss
+  pub accepts : (f : Form) (b : List ℕ) (ss : List Statement) → Gives C f b ss → check f b ≡ accepted (countsOf ss)
+  pub only : (f : Form) (b : List ℕ) (c : Counts) → canonical C f b ≡ b → check f b ≡ accepted c → (ss : List Statement) × Gives C f b ss
+  pub alike : (f : Form) (b : List ℕ) → check f b ≡ check f (canonical C f b)

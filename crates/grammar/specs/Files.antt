@@ -1,13 +1,14 @@
 -- Files of bytes: what one record's bytes mean is a `Coding`; all else is built on it.
 use mathlib.Core.Path.{_≡_}
 use mathlib.Core.Bool.{Bool, true, false, _&&_}
-use mathlib.Core.List.{List, [], _∷_, map}
-use Prim.Native.Nat.{ℕ, _<_, _≤_}
-use lib.ListN.{length, take, getD}
+use mathlib.Core.List.{List, [], _∷_, _++_, map}
+use Prim.Native.Nat.{ℕ, _*_, _<_, _≤_}
+use lib.ListN.{length, take, drop, getD}
 use lib.Dec.{ltb}
 use Rattle.zones.specs.Choice.{pick}
+use Rattle.zones.specs.Pieces.{flat}
 use Rattle.framing.specs.declared.Form.{Form}
-use Rattle.framing.specs.Files.{All, countOf, unknownEnd, uneven, tooMany, piecesOf, wrongEnd, unpermitted, fileOf}
+use Rattle.framing.specs.Files.{All, widthOf, countOf, unknownEnd, uneven, tooMany, piecesOf, wrongEnd, unpermitted, fileOf}
 use Rattle.grammar.specs.Answer.{Rule, rule, ruled, Answer, refused, Verdict}
 use Rattle.grammar.specs.Machine.{Machine, scan}
 use Rattle.grammar.specs.Record.{Rec, Edition}
@@ -15,12 +16,14 @@ use Rattle.grammar.specs.Rules.{Mode, outOfPlace, differs, secondMmo, mi
 use Rattle.grammar.specs.Since.{sinceOpening, inside, outOfPlaceAfter, differsAfter, secondMmoAfter, misdatedAfter, unsummedAfter, tooLongAfter, tally}
 use Rattle.grammar.specs.Statements.{Statement, Valid, recordsOf, allRecords, back}
 
--- A record's bytes: their number, the values they hold, the bytes of values, the values that bytes can hold, and the rules 6, 8 and 9.
+-- A record's bytes: their number, the values they hold, the bytes of values, the form in which bytes are written again, the values that bytes can hold,
+-- and the rules 6, 8 and 9.
 pub record Coding : Type 1 where
   pub size : ℕ
   pub edition : Edition
   pub decode : List ℕ → Rec
   pub encode : Rec → List ℕ
+  pub canon : List ℕ → List ℕ
   pub Ok : Rec → Type 0
   pub unknownCode : List ℕ → Bool
   pub misfit : List ℕ → Bool
@@ -33,33 +36,60 @@ pub record Fine (C : Coding) (b : List ℕ) : Type 0 where
   pub fits : C .misfit b ≡ false
   pub dated : C .undated b ≡ false
 
+-- records of one length that no rule on the bytes tells apart and that hold the same values
+pub record Alike (C : Coding) (a b : List ℕ) : Type 0 where
+  pub sized : length a ≡ length b
+  pub permitted : unpermitted a ≡ unpermitted b
+  pub known : C .unknownCode a ≡ C .unknownCode b
+  pub fits : C .misfit a ≡ C .misfit b
+  pub dated : C .undated a ≡ C .undated b
+  pub values : C .decode a ≡ C .decode b
+
 -- what a crate of record layouts has to prove
 pub record Lawful (C : Coding) : Type 0 where
   pub some : 0 < C .size
   pub ok : (b : List ℕ) → length b ≡ C .size → Fine C b → C .Ok (C .decode b)
-  pub again : (b : List ℕ) → length b ≡ C .size → Fine C b → C .encode (C .decode b) ≡ b
+  pub alike : (b : List ℕ) → length b ≡ C .size → Alike C (C .canon b) b
+  pub again : (b : List ℕ) → length b ≡ C .size → Fine C b → C .encode (C .decode b) ≡ C .canon b
   pub wide : (r : Rec) → C .Ok r → length (C .encode r) ≡ C .size
   pub fine : (r : Rec) → C .Ok r → Fine C (C .encode r)
   pub same : (r : Rec) → C .Ok r → C .decode (C .encode r) ≡ r
 
 module _ (C : Coding) where
-  -- DEMAND 2: the bytes b are those of the valid statements ss, laid out by the rules, within the limits
-  unfoldable pub layoutOf : Form → List Statement → List ℕ
-  layoutOf f ss = fileOf f (map (C .encode) (allRecords (C .edition) ss))
-
-  pub record Reads (f : Form) (b : List ℕ) (ss : List Statement) : Type 0 where
-    pub line : unknownEnd f ≡ false
-    pub valid : All (Valid (C .edition)) ss
-    pub ok : All (C .Ok) (allRecords (C .edition) ss)
-    pub layout : layoutOf f ss ≡ b
-    pub few : length (allRecords (C .edition) ss) ≤ C .edition .mostInFile
-
   -- a piece of a file is a record and its line end
   abbrev pub recOf : List ℕ → Rec
   recOf p = C .decode (take (C .size) p)
 
   abbrev pub pieces : Form → List ℕ → List (List ℕ)
   pieces f b = piecesOf (C .size) f b
+
+  -- a piece with its record as it is written, and its line end as it stands
+  abbrev pub canonPiece : List ℕ → List ℕ
+  canonPiece p = C .canon (take (C .size) p) ++ drop (C .size) p
+
+  -- a file with each record as it is written: line ends, and what is left over behind the last piece, as they stand
+  unfoldable pub canonical : Form → List ℕ → List ℕ
+  canonical f b = flat (map canonPiece (pieces f b)) ++ drop (countOf (C .size) f b * widthOf (C .size) f) b
+
+  -- statements laid out by the rules
+  unfoldable pub layoutOf : Form → List Statement → List ℕ
+  layoutOf f ss = fileOf f (map (C .encode) (allRecords (C .edition) ss))
+
+  -- DEMAND 2: the bytes b are those of the valid statements ss, laid out by the rules, within the limits
+  pub record Gives (f : Form) (b : List ℕ) (ss : List Statement) : Type 0 where
+    pub line : unknownEnd f ≡ false
+    pub valid : All (Valid (C .edition)) ss
+    pub ok : All (C .Ok) (allRecords (C .edition) ss)
+    pub layout : layoutOf f ss ≡ b
+    pub few : length (allRecords (C .edition) ss) ≤ C .edition .mostInFile
+
+  -- the same, with each record of b as it is written
+  pub record Reads (f : Form) (b : List ℕ) (ss : List Statement) : Type 0 where
+    pub line : unknownEnd f ≡ false
+    pub valid : All (Valid (C .edition)) ss
+    pub ok : All (C .Ok) (allRecords (C .edition) ss)
+    pub layout : layoutOf f ss ≡ canonical f b
+    pub few : length (allRecords (C .edition) ss) ≤ C .edition .mostInFile
 
   -- the statements of an accepted file
   unfoldable pub statementsOf : Form → List ℕ → List Statement

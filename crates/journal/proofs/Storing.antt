@@ -6,7 +6,6 @@ use native.Mathlib.Nat.{add-sub-cancel-left, add-zero}
 use native.Mathlib.Omega.{arith}
 use lib.ListN.{length, take, drop, getD, length-append, length-drop, drop-of-length-le}
 use lib.Seq.{drop-drop, length-take-le, take-all}
-use borrow.Author.Tests.{eq-eqb}
 use borrow.Rule.Slice.PartMut.{putMid}
 use Rattle.framing.specs.declared.Form.{Form}
 use Rattle.framing.specs.Files.{lineEnd, widthOf}
@@ -19,12 +18,12 @@ use Rattle.contents.specs.Heads.{recordAtOf}
 use Rattle.bodies.specs.Bodies.{bodyOf, closingIn}
 use Rattle.bodies.specs.Answers.{PutBody}
 use Rattle.bodies.proofs.Single.{reads-writable}
-use Rattle.bodies.proofs.Ends.{opening-written, opening-whole, closing-written, closing-whole}
 use Rattle.bodies.proofs.Identical.{part-count, body-put}
-use Rattle.entries.specs.Entries.{mostEntries, entrySize, lineAt, entryPut}
+use Rattle.entries.specs.Entries.{mostEntries, entrySize, lineAt}
 use Rattle.entries.specs.Answers.{PutEntry}
 use Rattle.journal_layout.specs.Layout.{entryOf}
 use Rattle.journal_layout.proofs.Holding.{length-entry-of}
+use Rattle.journal_layout.proofs.Adding.{entry-value}
 use Rattle.journal.specs.Plans.{partsFrom, Reading, entryWritten, bodyWritten, written, writtenAll, Roomy, Storable}
 
 module _ (j : List ℕ) (e k : ℕ) {f : Form} {part : List ℕ} {s : Statement} (r : Reads july f part (s ∷ [])) (h : e < mostEntries) (l : lineAt (k + sizeOf s) ≤ length j) where
@@ -37,10 +36,7 @@ module _ (j : List ℕ) (e k : ℕ) {f : Form} {part : List ℕ} {s : Statement}
   a = entrySize * e
 
   entry-is : {n : ℕ} {o c x y : List ℕ} → n ≡ sizeOf s → o ≡ recordAtOf part 0 → c ≡ closingIn f part → length x ≡ entrySize → PutEntry k n o c x y → y ≡ entryOf k s
-  unfolding entryPut entryOf
-  entry-is {n} {o} {c} {x} z p q m w =
-      w .content
-      ∙ rw (p, q, z, eq-eqb (length x) entrySize m, eq-eqb (length (recordAtOf part 0)) recordSize (opening-whole r), eq-eqb (length (closingIn f part)) recordSize (closing-whole r), opening-written r, closing-written r)
+  entry-is {n} {o} {c} {x} z p q m w = w .content ∙ rw (p, q) (entry-value r k n x z m)
 
   module _ {n : ℕ} {o c y : List ℕ} (m : n ≡ sizeOf s) (p : o ≡ recordAtOf part 0) (q : c ≡ closingIn f part)
       (w : PutEntry k n o c (take (a + entrySize - a) (drop a j)) y) where

@@ -1,21 +1,20 @@
 -- One statement of an accepted file after another: its place, its part, and the place after it.
-use mathlib.Core.Path.{_≡_, refl, sym, ap, _∙_}
+use mathlib.Core.Path.{_≡_, refl, ap, _∙_}
 use mathlib.Core.Bool.{Bool, true, false}
-use mathlib.Core.List.{List, [], _∷_, map}
+use mathlib.Core.List.{List, [], _∷_}
 use Prim.Native.Nat.{ℕ, _+_, _-_, _*_, _/_, _<_, _≤_}
 use native.Mathlib.Nat.{add-mul, mul-div-cancel, mul-le-mul-right}
 use native.Mathlib.Omega.{arith}
 use lib.Dec.{eqb}
-use lib.ListN.{length, take, drop, getD, length-map}
+use lib.ListN.{length, take, drop, getD}
 use borrow.Author.Tests.{ltb-false, eqb-true, eqb-false}
 use Rattle.framing.specs.declared.Form.{Form}
-use Rattle.framing.specs.Files.{lineEnd, widthOf, fileOf, pieceOf}
-use Rattle.framing.proofs.Cuts.{length-flat}
+use Rattle.framing.specs.Files.{lineEnd, widthOf}
 use Rattle.grammar.specs.Statements.{Statement, allRecords}
-use Rattle.grammar.specs.Files.{layoutOf, Reads}
+use Rattle.grammar.specs.Files.{Reads}
 use Rattle.grammar.specs.Parts.{sizeOf, recordsBefore, nothing}
-use Rattle.grammar.proofs.Seam.{piecesFor, wide-pieces}
-use Rattle.records.specs.July.{recordSize, mostInFile, july, july2004, encodeRecord}
+use Rattle.grammar.proofs.Exact.{reads-length}
+use Rattle.records.specs.July.{recordSize, mostInFile, july, july2004}
 use Rattle.records.proofs.Lawful.{july-lawful}
 use Rattle.records.proofs.Theorems.{part-reads}
 use Rattle.readers.specs.Places.{endAfter}
@@ -26,13 +25,10 @@ use Rattle.readers.proofs.Turns.{before-end, after-last, between}
 
 -- an accepted file is not long
 pub file-small : {f : Form} {b : List ℕ} {ss : List Statement} → Reads july f b ss → length b ≤ 2440000
-unfolding layoutOf fileOf widthOf
+unfolding widthOf
 file-small {f} {b} {ss} r =
-    let rs = allRecords july2004 ss in
-    let n : length (piecesFor july f rs) ≡ length rs = length-map (map encodeRecord rs) (pieceOf f) ∙ length-map rs encodeRecord in
-    let l : length b ≡ length rs * (recordSize + lineEnd f) =
-    sym (ap length (r .layout)) ∙ length-flat (recordSize + lineEnd f) (piecesFor july f rs) (wide-pieces july f july-lawful (r .line) rs (r .ok)) ∙ ap (λ (m : ℕ). m * (recordSize + lineEnd f)) n in
-    let m : length rs * (recordSize + lineEnd f) ≤ mostInFile * (recordSize + lineEnd f) = mul-le-mul-right (recordSize + lineEnd f) (r .few) in
+    let l = reads-length july july-lawful r in
+    let m : length (allRecords july2004 ss) * (recordSize + lineEnd f) ≤ mostInFile * (recordSize + lineEnd f) = mul-le-mul-right (recordSize + lineEnd f) (r .few) in
     let e = ltb-false 2 (lineEnd f) (r .line) in
     omega arith
 

@@ -60,7 +60,7 @@ pub record Demand3 (O : List ℕ → List ℕ) (D : Deliver) : Type 0 where
   pub counts : (j : List ℕ) → isLength (length j) ≡ true → (es : List Event) (f : Form) (b : List ℕ) (s h : ℕ)
       → D (after D (O j) es) f b .answer ≡ Done s h
       → (s ≡ length (arrivals (heldAfter D (O j) es) (statementsOf july f b))) × (s + h ≡ length (statementsOf july f b))
-  -- such a file, sent again at any later time with any line ends, is answered as wholly held and changes nothing
+  -- such a file, sent again at any later time with any line ends and either zero, is answered as wholly held and changes nothing
   pub again : (j : List ℕ) → isLength (length j) ≡ true → (es : List Event) (f : Form) (b : List ℕ) (s h : ℕ)
       → D (after D (O j) es) f b .answer ≡ Done s h
       → (later : List Event) (g : Form) (c : List ℕ) → Reads july g c (statementsOf july f b)

@@ -13,7 +13,7 @@ use Rattle.zones.specs.Copy.{sameBytes}
 use Rattle.zones.specs.Pieces.{flat}
 use Rattle.zones.proofs.Copies.{same-equal}
 use Rattle.framing.specs.declared.Form.{Form}
-use Rattle.framing.specs.Files.{All}
+use Rattle.framing.specs.Files.{All, widthOf}
 use Rattle.grammar.specs.Statements.{Statement}
 use Rattle.grammar.specs.Files.{Reads, Writable}
 use Rattle.grammar.specs.Parts.{sizeOf}
@@ -21,10 +21,11 @@ use Rattle.grammar.proofs.Tests.{clash}
 use Rattle.records.specs.July.{recordSize, july}
 use Rattle.records.specs.Looks.{lookOf}
 use Rattle.contents.specs.Heads.{recordAtOf}
-use Rattle.bodies.specs.Bodies.{plain, bodyOf, openingText, closingText, single, statementOf}
-use Rattle.bodies.proofs.Single.{single-reads, reads-single, reads-writable, reads-body}
-use Rattle.bodies.proofs.Ends.{opening-written, opening-there, opening-whole, closing-written}
+use Rattle.bodies.specs.Bodies.{plain, kept, bodyOf, openingText, closingText, closingIn, single, statementOf}
+use Rattle.bodies.proofs.Single.{single-reads, single-body, reads-writable}
+use Rattle.bodies.proofs.Ends.{length-part, opening-written, opening-there, opening-whole, closing-written, closing-whole}
 use Rattle.entries.specs.Entries.{mostEntries, entrySize, tableSize, lineAt, entryPut, entryBytes, linesFrom}
+use Rattle.entries.proofs.Written.{entry-kept}
 use Rattle.journal_layout.specs.Chains.{follows}
 use Rattle.journal_layout.specs.Layout.{linesOf, entryOf, entriesOf, bodiesOf}
 use Rattle.journal_layout.specs.Test.{fitsIn}
@@ -71,13 +72,20 @@ length-bodies (s ∷ A) a = length-append (bodyOf s) (bodiesOf A) ∙ omega (ari
 
 -- ---- the entry that the code compares with
 
-entry-put-value : {t : Statement} → Writable july t → (k : ℕ)
-    → entryPut k (sizeOf t) (openingText t) (closingText t) (replicate entrySize 32) ≡ entryOf k t
+entry-put-value : {t : Statement} → Writable july t → (k : ℕ) (y : List ℕ) → length y ≡ entrySize
+    → entryPut k (sizeOf t) (openingText t) (closingText t) y ≡ entryOf k t
 unfolding entryPut entryOf
-entry-put-value {t} w k =
-    rw (eq-eqb (length (openingText t)) recordSize (opening-length w), eq-eqb (length (closingText t)) recordSize (closing-length w))
+entry-put-value {t} w k y l =
+    rw (eq-eqb (length y) entrySize l, eq-eqb (length (openingText t)) recordSize (opening-length w), eq-eqb (length (closingText t)) recordSize (closing-length w))
 
 module _ {f : Form} {x : List ℕ} {t : Statement} (r : Reads july f x (t ∷ [])) where
+  -- the same of its 01 and 07 as they stand, whatever their zeros
+  pub entry-value : (k n : ℕ) (y : List ℕ) → n ≡ sizeOf t → length y ≡ entrySize → entryPut k n (recordAtOf x 0) (closingIn f x) y ≡ entryOf k t
+  unfolding kept
+  entry-value k n y z l =
+      sym (entry-kept k n (recordAtOf x 0) (closingIn f x) y (opening-whole r) (closing-whole r))
+      ∙ rw (opening-written r, closing-written r, z) (entry-put-value (reads-writable r) k y l)
+
   pub look-date : lookOf (recordAtOf x 0) .day ≡ t .old-date
   unfolding lookOf
   look-date = rw (eq-eqb (length (recordAtOf x 0)) recordSize (opening-whole r), opening-there r .day)
@@ -98,24 +106,22 @@ module _ {j : List ℕ} {H : List Statement} (g : Holding j H) (n : ℕ) (l : li
   abbrev x : List ℕ
   x = linesFrom j k n
 
-  -- the test, where the lines are those of a statement
-  pub fits-value : {t : Statement} → Reads july plain x (t ∷ []) → n ≡ sizeOf t
+  -- the test, where the lines stand alone and are those of a statement
+  pub fits-value : {t : Statement} → single x ≡ true → Reads july plain x (t ∷ []) → n ≡ sizeOf t
       → fitsIn j e k n ≡ pick (sameBytes (entryBytes j e) (entryOf k t)) (follows t H) false
   unfolding fitsIn
-  fits-value {t} r z =
-      let w = reads-writable r in
-      rw (reads-single r, opening-written r, closing-written r, z, entry-put-value w k)
-      (rw (← z, judged-value r g, ← opening-written r, look-date r, look-balance r))
+  fits-value {t} s r z = rw (s, entry-value r k n (replicate entrySize 32) z refl, judged-value r g, look-date r, look-balance r)
 
   -- as many lines as the statement has records
   size-there : {t : Statement} → Reads july plain x (t ∷ []) → n ≡ sizeOf t
+  unfolding widthOf
   size-there {t} r =
       let a : length x ≡ recordSize * n = length-take-le (recordSize * n) (drop (lineAt k) j) (omega (arith, length-drop (lineAt k) j)) in
-      let b : length x ≡ recordSize * sizeOf t = ap length (reads-body r) ∙ length-body-of (reads-writable r) in
-      omega arith
+      omega (arith, length-part r)
 
   pub record Fit (t : Statement) : Type 0 where
     pub reads : Reads july plain x (t ∷ [])
+    pub body : x ≡ bodyOf t
     pub size : n ≡ sizeOf t
     pub entry : entryBytes j e ≡ entryOf k t
     pub next : follows t H ≡ true
@@ -126,8 +132,8 @@ module _ {j : List ℕ} {H : List Statement} (g : Holding j H) (n : ℕ) (l : li
       let s = pick-both (single x) _ h in
       let r = single-reads x (s .0) in
       let z = size-there r in
-      let p = pick-both (sameBytes (entryBytes j e) (entryOf k (statementOf x))) (follows (statementOf x) H) (sym (fits-value r z) ∙ h) in
-      record { reads = r; size = z; entry = same-equal _ _ (p .0); next = p .1 }
+      let p = pick-both (sameBytes (entryBytes j e) (entryOf k (statementOf x))) (follows (statementOf x) H) (sym (fits-value (s .0) r z) ∙ h) in
+      record { reads = r; body = single-body x (s .0); size = z; entry = same-equal _ _ (p .0); next = p .1 }
 
   -- the statements held with it
   pub holds-next : {t : Statement} → e < mostEntries → Fit t → Holding j (H ++ (t ∷ []))
@@ -147,7 +153,7 @@ module _ {j : List ℕ} {H : List Statement} (g : Holding j H) (n : ℕ) (l : li
             ∙ ap₂ _++_ (g .table) (f .entry)
             ∙ sym (entries-append 0 H (t ∷ []) ∙ rw (zero-add k, append-nil (entryOf k t)));
         bodies = rw v (take-add (recordSize * k) (recordSize * n) (drop tableSize j))
-            ∙ ap₂ _++_ (g .bodies) (ap (take (recordSize * n)) (drop-drop (recordSize * k) tableSize j) ∙ reads-body (f .reads))
+            ∙ ap₂ _++_ (g .bodies) (ap (take (recordSize * n)) (drop-drop (recordSize * k) tableSize j) ∙ f .body)
             ∙ sym (bodies-append H (t ∷ []) ∙ ap (λ b. bodiesOf H ++ b) (append-nil (bodyOf t)));
       }
 

@@ -19,11 +19,11 @@ use Rattle.zones.proofs.Copies.{equal-same}
 use Rattle.zones.proofs.Every.{every-at, in-range, blanks-are, are-blanks}
 use Rattle.layouts.specs.Zone.{part}
 use Rattle.grammar.specs.Statements.{Statement}
-use Rattle.grammar.specs.Files.{Reads, Writable}
+use Rattle.grammar.specs.Files.{pieces, Reads, Writable}
 use Rattle.grammar.specs.Parts.{sizeOf, recordsBefore, nothing}
-use Rattle.records.specs.July.{recordSize, july}
-use Rattle.bodies.specs.Bodies.{plain, bodyOf, statementOf}
-use Rattle.bodies.proofs.Single.{body-reads, reads-statement}
+use Rattle.records.specs.July.{recordSize, july, noDebitZero}
+use Rattle.bodies.specs.Bodies.{plain, bodyOf, single, statementOf}
+use Rattle.bodies.proofs.Single.{body-reads, body-own, body-single, reads-statement}
 use Rattle.entries.specs.Entries.{mostEntries, entrySize, tableSize, lineAt, noEntry, fieldsOf, entryBytes, entryIn, linesFrom, bodyAt}
 use Rattle.journal_layout.specs.Chains.{ofAccount}
 use Rattle.journal_layout.specs.Layout.{mostLines, isLength, linesOf, entryOf, entriesOf, bodiesOf, layoutOf, Journal}
@@ -304,9 +304,10 @@ module _ {j : List ℕ} (long : tableSize ≤ length j) where
       let s = there H t B g in
       let x = holds-first H (t ∷ B) g in
       let a = append-assoc H (t ∷ []) B in
+      let p : single (linesFrom j (linesOf H) (sizeOf t)) ≡ true = rw (s .lines) (body-single (s .alone)) in
       let q : Reads july plain (linesFrom j (linesOf H) (sizeOf t)) (t ∷ []) = rw (s .lines) (body-reads (s .alone)) in
       let y : fitsIn j (length H) (linesOf H) (sizeOf t) ≡ true =
-      fits-value x (sizeOf t) (s .inside) q refl ∙ rw (s .entry, equal-same (entryOf (linesOf H) t)) (r .0) in
+      fits-value x (sizeOf t) (s .inside) p q refl ∙ rw (s .entry, equal-same (entryOf (linesOf H) t)) (r .0) in
       let z : walkIn m (length (H ++ (t ∷ []))) (linesOf (H ++ (t ∷ []))) j ≡ true =
       walk-true (H ++ (t ∷ [])) B (rw a g) (r .1) (rw a b) m (omega (arith, length-append H (t ∷ []))) in
       let c : length (H ++ (t ∷ [])) ≡ length H + 1 = length-append H (t ∷ []) in
@@ -358,3 +359,9 @@ sound-exact j = ((λ h. (heldOf j, sound-journal j h)), (λ g. journal-sound (g 
 -- and there is no second list
 pub sound-unique : {j : List ℕ} {ss ts : List Statement} → Journal j ss → Journal j ts → ss ≡ ts
 sound-unique g h = sym (journal-list g) ∙ journal-list h
+
+-- no body in it has a debit zero
+pub sound-no-debit-zero : (j : List ℕ) → soundIn j ≡ true → (e : ℕ) → e < length (heldOf j) → noDebitZero (pieces july plain (bodyAt j e)) ≡ true
+sound-no-debit-zero j h e i =
+    let g = journal-held (sound-journal j h) .holding in
+    rw (there-body g e i) (body-own (there-alone g e i))

@@ -22,7 +22,7 @@ use Rattle.records.specs.Tests.{sameKeyIn}
 use Rattle.contents.specs.Heads.{recordAtOf}
 use Rattle.bodies.specs.Bodies.{plain, bodyOf, openingText, closingText, sameRecords, closingIn}
 use Rattle.bodies.proofs.Single.{body-reads, length-body, size-most}
-use Rattle.bodies.proofs.Ends.{opening-written, opening-there, opening-whole, closing-written, closing-there, closing-whole}
+use Rattle.bodies.proofs.Ends.{length-kept, opening-written, opening-there, opening-whole, closing-written, closing-there, closing-whole}
 use Rattle.bodies.proofs.Identical.{same-identical}
 use Rattle.entries.specs.Entries.{mostEntries, entrySize, tableSize, lineAt, fieldsOf, entryBytes, entryIn, linesFrom, bodyAt}
 use Rattle.entries.proofs.Written.{length-entry, entry-read}
@@ -52,10 +52,10 @@ inside-take (suc a) n (suc m) (x ∷ l) h = inside-take a n m l (omega arith)
 
 module _ {s : Statement} (w : Writable july s) where
   pub opening-length : length (openingText s) ≡ recordSize
-  opening-length = let r = body-reads w in ap length (sym (opening-written r)) ∙ opening-whole r
+  opening-length = let r = body-reads w in ap length (sym (opening-written r)) ∙ length-kept _ (opening-whole r)
 
   pub closing-length : length (closingText s) ≡ recordSize
-  closing-length = let r = body-reads w in ap length (sym (closing-written r)) ∙ closing-whole r
+  closing-length = let r = body-reads w in ap length (sym (closing-written r)) ∙ length-kept _ (closing-whole r)
 
   pub length-entry-of : (k : ℕ) → length (entryOf k s) ≡ entrySize
   unfolding entryOf

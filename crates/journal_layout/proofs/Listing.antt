@@ -14,11 +14,12 @@ use Rattle.grammar.specs.Parts.{sizeOf, recordsBefore, nothing}
 use Rattle.grammar.proofs.Tests.{clash}
 use Rattle.records.specs.July.{recordSize, july, dateIn}
 use Rattle.readers.specs.declared.Place.the-variants.{At, Refused}
-use Rattle.bodies.specs.Bodies.{openingText, closingText}
+use Rattle.bodies.specs.Bodies.{kept, openingText, closingText}
 use Rattle.bodies.proofs.Single.{body-reads}
-use Rattle.bodies.proofs.Ends.{opening-written, opening-there, closing-written, closing-there}
+use Rattle.bodies.proofs.Ends.{opening-written, opening-there, opening-whole, closing-written, closing-there, closing-whole}
 use Rattle.entries.specs.declared.Entry.{Entry}
 use Rattle.entries.specs.Entries.{mostEntries, lineAt, entryBytes, entryIn, rowOf}
+use Rattle.entries.proofs.Written.{day-kept}
 use Rattle.entries.proofs.Rows.{row-of-entry}
 use Rattle.journal_layout.specs.Layout.{isLength, entryOf, rowFor, Journal}
 use Rattle.journal_layout.specs.Test.{soundIn, heldOf, entryPlaceOf, listedPlaceOf}
@@ -119,10 +120,16 @@ listed-sound j e h = by (eqb e 0) refl (entryIn j (e - 1) .used) refl
 -- the dates of a statement's 01 and 07
 module _ {s : Statement} (w : Writable july s) where
   old-date-there : dateIn (openingText s) ≡ s .old-date
-  old-date-there = let r = body-reads w in ap dateIn (sym (opening-written r)) ∙ opening-there r .day
+  unfolding kept
+  old-date-there =
+      let r = body-reads w in
+      ap dateIn (sym (opening-written r)) ∙ day-kept _ (opening-whole r) ∙ opening-there r .day
 
   new-date-there : dateIn (closingText s) ≡ s .new-date
-  new-date-there = let r = body-reads w in ap dateIn (sym (closing-written r)) ∙ closing-there r .day
+  unfolding kept
+  new-date-there =
+      let r = body-reads w in
+      ap dateIn (sym (closing-written r)) ∙ day-kept _ (closing-whole r) ∙ closing-there r .day
 
 -- WHAT THE ROWS SAY: in a sound journal the row of entry e, from 1, is that of its statement
 pub listed-row : (j : List ℕ) → soundIn j ≡ true → (e : ℕ) → 1 ≤ e → e ≤ length (heldOf j)

@@ -10,19 +10,19 @@ use lib.IntN.{ℤ}
 use borrow.Author.Tests.{eqb-true, eq-eqb, ltb-true, lt-ltb}
 use Rattle.zones.specs.Choice.{pick}
 use Rattle.zones.specs.Class.{Class, digit, blank, permitted, inClass, every, all}
-use Rattle.zones.specs.Number.{valueOf}
+use Rattle.zones.specs.Number.{valueOf, valueFrom}
 use Rattle.zones.proofs.Bools.{and-left, and-right, both, either as by-either}
 use Rattle.zones.proofs.Every.{class-permitted, blanks-are, are-blanks}
 use Rattle.zones.proofs.Copies.{same-equal, equal-same}
 use Rattle.zones.proofs.Decimal.{value-digits, digits-value, length-digits, digits-all, value-below}
-use Rattle.amounts.specs.Amounts.{isAmount, amountOf, signedOf, isDebit, magnitude}
+use Rattle.amounts.specs.Amounts.{signIndex, signOf, isAmount, amountOf, signedOf, isDebit, magnitude, debitZero, creditZero}
 use Rattle.amounts.specs.declared.Amount.the-variants.{Value, NoAmount}
 use Rattle.amounts.proofs.RoundTrip as amounts
 use Rattle.dates.specs.Days.{dateOf}
 use Rattle.dates.specs.declared.Date.{Date}
 use Rattle.dates.specs.declared.Date.the-variants.{Day, NoDay}
 use Rattle.dates.proofs.RoundTrip as dates
-use Rattle.layouts.specs.Zone.{Kind, mark, blanks, text, either, byte, number, date, amount, El, dayIn, isDate, valueIn, get, put, holds, passes, marked, zoned, dated, wide}
+use Rattle.layouts.specs.Zone.{Kind, mark, blanks, text, either, byte, number, date, amount, El, dayIn, isDate, valueIn, get, put, asWrittenIn, holds, passes, marked, zoned, dated, wide}
 
 -- the bytes of a zone pass all that the three rules ask
 pub record Right (k : Kind) (z : List ℕ) : Type 0 where
@@ -62,8 +62,42 @@ is-amount z v = by (isAmount z) refl
     by true e h = refl
     by false e h = let n : _≡_ {A = ℕ} 0 1 = cc in absurd (omega arith)
 
--- bytes that a zone takes are the bytes of their value
-pub put-get : (k : Kind) (w : ℕ) (z : List ℕ) → wide w k ≡ true → length z ≡ w → Right k z → put w k (get k z) ≡ z
+-- what does not tell the two zeros of an amount apart does not tell a zone's bytes from their written form
+pub kept : {A : Kind → Type 0} (g : (k : Kind) → List ℕ → A k) → g amount creditZero ≡ g amount debitZero → (k : Kind) (z : List ℕ)
+    → g k (asWrittenIn k z) ≡ g k z
+kept g e (mark t) z = refl
+kept g e blanks z = refl
+kept g e (text c) z = refl
+kept g e (either c d) z = refl
+kept g e (byte c) z = refl
+kept g e number z = refl
+kept g e date z = refl
+kept g e amount z = amounts.alike (g amount) e z
+
+-- all kinds but an amount are always written as they stand
+abbrev pub fixed : Kind → Bool
+fixed (mark t) = true
+fixed blanks = true
+fixed (text c) = true
+fixed (either c d) = true
+fixed (byte c) = true
+fixed number = true
+fixed date = true
+fixed amount = false
+
+-- what is no amount is written as it stands
+pub still : (k : Kind) (z : List ℕ) → fixed k ≡ true → asWrittenIn k z ≡ z
+still (mark t) z h = refl
+still blanks z h = refl
+still (text c) z h = refl
+still (either c d) z h = refl
+still (byte c) z h = refl
+still number z h = refl
+still date z h = refl
+still amount z h = absurd (false≢true h)
+
+-- the bytes of the value of a zone are those that it takes, as they are written
+pub put-get : (k : Kind) (w : ℕ) (z : List ℕ) → wide w k ≡ true → length z ≡ w → Right k z → put w k (get k z) ≡ asWrittenIn k z
 put-get (mark t) w z g e r = same-equal t z (r .mark)
 put-get blanks w z g e r = rw (← e) (sym (blanks-are z (r .zone)))
 put-get (text c) w z g e r = refl
@@ -116,6 +150,21 @@ right-put number w v h = record { mark = refl; zone = digits-all w v; date = ref
 right-put date w v h = record { mark = refl; zone = dates.text-digits v; date = rw (dates.read-text v h) }
 right-put amount w v h = record { mark = refl; zone = is-amount _ v (amounts.read-text v h); date = refl }
 
+-- both zeros are of permitted bytes
+pub zeros-permitted : all permitted creditZero ≡ all permitted debitZero
+unfolding every
+zeros-permitted = refl
+
+-- both are amounts
+pub zeros-zoned : passes (zoned amount) creditZero ≡ passes (zoned amount) debitZero
+unfolding every signOf signIndex
+zeros-zoned = refl
+
+-- of the same value
+pub zeros-value : get amount creditZero ≡ get amount debitZero
+unfolding amountOf every isDebit magnitude signOf signIndex valueFrom
+zeros-value = refl
+
 -- bytes that a zone takes are permitted
 pub right-permitted : (k : Kind) (w : ℕ) (z : List ℕ) → wide w k ≡ true → Right k z → all permitted z ≡ true
 right-permitted (mark t) w z g r = rw (← same-equal t z (r .mark)) (and-right (eqb (length t) w) _ g)
@@ -126,4 +175,5 @@ right-permitted (byte c) w z g r = class-permitted c z (r .zone)
 right-permitted number w z g r = class-permitted digit z (r .zone)
 right-permitted date w z g r = class-permitted digit z (r .zone)
 right-permitted amount w z g r =
-    rw (← amounts.text-read z (valueIn (amountOf z)) (valued-is z (r .zone))) (amounts.text-permitted (valueIn (amountOf z)))
+    sym (kept (λ k. all permitted) zeros-permitted amount z)
+    ∙ rw (← amounts.text-read z (valueIn (amountOf z)) (valued-is z (r .zone))) (amounts.text-permitted (valueIn (amountOf z)))

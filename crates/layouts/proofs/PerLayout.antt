@@ -7,13 +7,14 @@ use native.Mathlib.Nat.{not-suc-le-zero, le-of-suc-le-suc}
 use native.Mathlib.Omega.{arith}
 use lib.Dec.{leb, eqb}
 use lib.ListN.{length, take, drop, getD, length-append, length-drop, take-append-drop, drop-of-length-le}
-use lib.Seq.{drop-drop, length-take-le, take-at, drop-at}
+use lib.Seq.{drop-drop, length-take-le, take-at, drop-at, take-add}
 use borrow.Author.Tests.{eqb-true, leb-true}
 use Rattle.zones.specs.Class.{permitted, inClass, every, all}
-use Rattle.zones.proofs.Bools.{and-left, and-right, both, and-assoc, and-one}
-use Rattle.zones.proofs.Every.{every-append}
-use Rattle.layouts.specs.Zone.{part, Kind, Zone, zone, El, get, put, holds, Ask, nothing, test, passes, asked, runAfter, run, Values, decode, encode, holdsAll, wide, covers, marked, zoned, dated}
-use Rattle.layouts.proofs.PerKind.{Right, put-get, holds-get, get-put, length-put, right-put, right-permitted}
+use Rattle.zones.proofs.Bools.{and-left, and-right, both, conj, and-assoc, and-one}
+use Rattle.zones.proofs.Every.{every-append, every-both}
+use Rattle.amounts.specs.Amounts.{debitZero, creditZero}
+use Rattle.layouts.specs.Zone.{part, Kind, amount, Zone, zone, El, get, put, asWrittenIn, holds, Ask, nothing, test, passes, asked, runAfter, run, Values, decode, encode, canon, holdsAll, wide, covers, marked, zoned, dated}
+use Rattle.layouts.proofs.PerKind.{Right, kept, fixed, still, zeros-permitted, zeros-zoned, zeros-value, put-get, holds-get, get-put, length-put, right-put, right-permitted}
 
 -- a record passes the three rules
 pub record Fits (zs : List Zone) (b : List ℕ) : Type 0 where
@@ -111,7 +112,7 @@ record Cut (p n a z : ℕ) (b : List ℕ) : Type 0 where
   width : length (part a z b) ≡ z + 1 - a
   joined : part a z b ++ drop z b ≡ drop p b
 
-cut-first : (p n a z : ℕ) (k : Kind) (zs : List Zone) (b : List ℕ) → First p n a z k zs → length b ≡ n → Cut p n a z b
+cut-first : (p n a z : ℕ) (k : Kind) (zs : List Zone) (b : List ℕ) → First p n a z k zs → n ≤ length b → Cut p n a z b
 cut-first p n a z k zs b f l =
     let m : z ≤ n = ends-in z n zs (f .rest) in
     let s : a - 1 ≡ p = omega (arith, f .start) in
@@ -121,25 +122,125 @@ cut-first p n a z k zs b f l =
       joined = rw s (meet (z + 1 - a) p z b e);
     }
 
--- BYTES TO VALUES: what a record that fits holds is written as it stood
-written : (p n : ℕ) (zs : List Zone) (b : List ℕ) → covers p n zs ≡ true → length b ≡ n → Rights zs b → encode zs (decode zs b) ≡ drop p b
-written p n [] b g l r =
-    let e : length b ≤ p = omega (arith, eqb-true p n g) in
-    sym (drop-of-length-le b e)
+-- a pair as a function
+abbrev pair : {A B : Type 0} → A → B → A × B
+pair a b = (a, b)
+
+-- the first zone, where p bytes stand before it
+part-at : (p a z : ℕ) (x y r : List ℕ) → length x ≡ p → a ≡ p + 1 → length y ≡ z + 1 - a → part a z (x ++ (y ++ r)) ≡ y
+part-at p a z x y r l s w =
+    let q : a - 1 ≡ p = omega (arith, s) in
+    rw (q, drop-at x (y ++ r) p l) (take-at y r (z + 1 - a) w)
+
+-- BYTES TO VALUES: what a record that fits holds is written as `canon` says
+written : (p n : ℕ) (zs : List Zone) (b : List ℕ) → covers p n zs ≡ true → length b ≡ n → Rights zs b → encode zs (decode zs b) ≡ canon zs b
+written p n [] b g l r = refl
 written p n (zone a z k ∷ zs) b g l r =
     let f = first p n a z k zs g in
-    let c = cut-first p n a z k zs b f l in
-    ap₂ _++_ (put-get k (z + 1 - a) (part a z b) (f .width) (c .width) (r .0)) (written z n zs b (f .rest) l (r .1)) ∙ c .joined
+    let c = cut-first p n a z k zs b f (omega arith) in
+    ap₂ _++_ (put-get k (z + 1 - a) (part a z b) (f .width) (c .width) (r .0)) (written z n zs b (f .rest) l (r .1))
 
-pub encode-decode : (n : ℕ) (zs : List Zone) (b : List ℕ) → covers 0 n zs ≡ true → length b ≡ n → Fits zs b → encode zs (decode zs b) ≡ b
+pub encode-decode : (n : ℕ) (zs : List Zone) (b : List ℕ) → covers 0 n zs ≡ true → length b ≡ n → Fits zs b → encode zs (decode zs b) ≡ canon zs b
 encode-decode n zs b g l f = written 0 n zs b g l (rights zs b f)
+
+-- no zone is an amount
+abbrev pub fixedAll : List Zone → Bool
+fixedAll [] = true
+fixedAll (zone a z k ∷ zs) = fixed k && fixedAll zs
+
+-- zones that are no amounts are written as they stand, whatever zones come behind them
+pub canon-front : (p q : ℕ) (zs ys : List Zone) (b : List ℕ) → covers p q zs ≡ true → q ≤ length b → fixedAll zs ≡ true
+    → canon (zs ++ ys) b ≡ take (q - p) (drop p b) ++ canon ys b
+canon-front p q [] ys b g l h =
+    let e : q - p ≡ 0 = omega (arith, eqb-true p q g) in
+    rw e
+canon-front p q (zone a z k ∷ zs) ys b g l h =
+    let f = first p q a z k zs g in
+    let m : z ≤ q = ends-in z q zs (f .rest) in
+    let s : a - 1 ≡ p = omega (arith, f .start) in
+    let e : q - p ≡ (z + 1 - a) + (q - z) = omega (arith, f .start, f .some) in
+    let d : p + (z + 1 - a) ≡ z = omega (arith, f .start, f .some) in
+    let i = canon-front z q zs ys b (f .rest) l (and-right (fixed k) _ h) in
+    ap₂ _++_ (still k (part a z b) (and-left (fixed k) _ h)) i
+    ∙ (sym (append-assoc (part a z b) (take (q - z) (drop z b)) (canon ys b))
+    ∙ rw (s, e, take-add (z + 1 - a) (q - z) (drop p b), drop-drop (z + 1 - a) p b, d))
+
+-- THE WRITTEN FORM, of any bytes: the record c has the zones of b as they are written
+abbrev pub Rewrites : List Zone → (b c : List ℕ) → Type 0
+Rewrites [] b c = Unit {0}
+Rewrites (zone a z k ∷ zs) b c = (part a z c ≡ asWrittenIn k (part a z b)) × Rewrites zs b c
+
+-- the zones from position p + 1 on, where p bytes stand before them
+record Canon (p n : ℕ) (zs : List Zone) (x b : List ℕ) : Type 0 where
+  size : p + length (canon zs b) ≡ n
+  zones : Rewrites zs b (x ++ canon zs b)
+  bytes : all permitted (canon zs b) ≡ all permitted (drop p b)
+
+-- this holds of every layout without gaps
+canons : (p n : ℕ) (zs : List Zone) (x b : List ℕ) → covers p n zs ≡ true → length x ≡ p → length b ≡ n → Canon p n zs x b
+unfolding every
+canons p n [] x b g l m =
+    let e : p ≡ n = eqb-true p n g in
+    record { size = omega arith; zones = tt; bytes = rw (drop-of-length-le b {i = p} (omega arith)) }
+canons p n (zone a z k ∷ zs) x b g l m =
+    let f = first p n a z k zs g in
+    let c = cut-first p n a z k zs b f (omega arith) in
+    let y = asWrittenIn k (part a z b) in
+    let w : length y ≡ z + 1 - a = kept (λ k. length) refl k (part a z b) ∙ c .width in
+    let i = canons z n zs (x ++ y) b (f .rest) (omega (arith, length-append x y, f .start, f .some)) m in
+    record {
+      size = omega (arith, length-append y (canon zs b), i .size, f .start, f .some);
+      zones = (part-at p a z x y (canon zs b) l (f .start) w, rw append-assoc at (i .zones));
+      bytes = every-both (inClass permitted) y (canon zs b)
+          ∙ (conj (kept (λ k. all permitted) zeros-permitted k (part a z b)) (i .bytes)
+          ∙ (sym (every-both (inClass permitted) (part a z b) (drop z b)) ∙ ap (all permitted) (c .joined)));
+    }
+
+-- a rule that does not tell the two zeros apart does not tell the two records apart
+each-same : (r : Kind → Ask) → passes (r amount) creditZero ≡ passes (r amount) debitZero → (zs : List Zone) (b c : List ℕ) → Rewrites zs b c
+    → each r zs c ≡ each r zs b
+each-same r e [] b c s = refl
+each-same r e (zone a z k ∷ zs) b c s =
+    conj (ap (passes (r k)) (s .0) ∙ kept (λ k. passes (r k)) e k (part a z b)) (each-same r e zs b c (s .1))
+
+-- the same as the code asks it
+run-same : (r : Kind → Ask) → passes (r amount) creditZero ≡ passes (r amount) debitZero → (zs : List Zone) (b c : List ℕ) → Rewrites zs b c
+    → run r zs c ≡ run r zs b
+run-same r e zs b c s = run-each r true zs c ∙ (each-same r e zs b c s ∙ sym (run-each r true zs b))
+
+-- nor do the values
+values-same : (zs : List Zone) (b c : List ℕ) → Rewrites zs b c → decode zs c ≡ decode zs b
+values-same [] b c s = refl
+values-same (zone a z k ∷ zs) b c s = ap₂ pair (ap (get k) (s .0) ∙ kept get zeros-value k (part a z b)) (values-same zs b c (s .1))
+
+-- a record of n bytes, and the same as it is written
+pub record Rewritten (n : ℕ) (zs : List Zone) (b : List ℕ) : Type 0 where
+  pub size : length (canon zs b) ≡ n
+  pub zones : Rewrites zs b (canon zs b)
+  pub permitted-same : all permitted (canon zs b) ≡ all permitted b
+  pub zoned-same : run zoned zs (canon zs b) ≡ run zoned zs b
+  pub dated-same : run dated zs (canon zs b) ≡ run dated zs b
+  pub values : decode zs (canon zs b) ≡ decode zs b
+
+-- this holds of every record of the layout's length
+pub rewritten : (n : ℕ) (zs : List Zone) (b : List ℕ) → covers 0 n zs ≡ true → length b ≡ n → Rewritten n zs b
+rewritten n zs b g l =
+    let c = canons 0 n zs [] b g refl l in
+    record {
+      size = omega (arith, c .size);
+      zones = c .zones;
+      permitted-same = c .bytes;
+      zoned-same = run-same zoned zeros-zoned zs b (canon zs b) (c .zones);
+      dated-same = run-same dated refl zs b (canon zs b) (c .zones);
+      values = values-same zs b (canon zs b) (c .zones);
+    }
 
 -- and is such as the zones can hold
 held : (p n : ℕ) (zs : List Zone) (b : List ℕ) → covers p n zs ≡ true → length b ≡ n → Rights zs b → holdsAll zs (decode zs b) ≡ true
 held p n [] b g l r = refl
 held p n (zone a z k ∷ zs) b g l r =
     let f = first p n a z k zs g in
-    let c = cut-first p n a z k zs b f l in
+    let c = cut-first p n a z k zs b f (omega arith) in
     both (holds-get k (z + 1 - a) (part a z b) (f .width) (c .width) (r .0)) (held z n zs b (f .rest) l (r .1))
 
 pub holds-decode : (n : ℕ) (zs : List Zone) (b : List ℕ) → covers 0 n zs ≡ true → length b ≡ n → Fits zs b → holdsAll zs (decode zs b) ≡ true
@@ -153,19 +254,14 @@ allowed p n [] b g l r =
     rw (drop-of-length-le b e)
 allowed p n (zone a z k ∷ zs) b g l r =
     let f = first p n a z k zs g in
-    let c = cut-first p n a z k zs b f l in
+    let c = cut-first p n a z k zs b f (omega arith) in
     rw (← c .joined)
     (every-append (inClass permitted) (part a z b) (drop z b) (right-permitted k (z + 1 - a) (part a z b) (f .width) (r .0)) (allowed z n zs b (f .rest) l (r .1)))
 
 pub fits-permitted : (n : ℕ) (zs : List Zone) (b : List ℕ) → covers 0 n zs ≡ true → length b ≡ n → Fits zs b → all permitted b ≡ true
 fits-permitted n zs b g l f = allowed 0 n zs b g l (rights zs b f)
 
--- VALUES TO BYTES: the first zone, where p bytes stand before it
-part-at : (p a z : ℕ) (x y r : List ℕ) → length x ≡ p → a ≡ p + 1 → length y ≡ z + 1 - a → part a z (x ++ (y ++ r)) ≡ y
-part-at p a z x y r l s w =
-    let q : a - 1 ≡ p = omega (arith, s) in
-    rw (q, drop-at x (y ++ r) p l) (take-at y r (z + 1 - a) w)
-
+-- VALUES TO BYTES
 record Put-first (p n a z : ℕ) (k : Kind) (zs : List Zone) (x : List ℕ) (v : El k) (vs : Values zs) : Type 0 where
   good : holds (z + 1 - a) k v ≡ true
   others : holdsAll zs vs ≡ true
@@ -187,9 +283,6 @@ put-first p n a z k zs x v vs g l h =
       here = part-at p a z x y (encode zs vs) l (f .start) w;
       next = omega (arith, length-append x y, w, f .start, f .some);
     }
-
-abbrev pair : {A B : Type 0} → A → B → A × B
-pair a b = (a, b)
 
 -- values that the zones can hold are what their bytes hold
 read-back : (p n : ℕ) (zs : List Zone) (x : List ℕ) (vs : Values zs) → covers p n zs ≡ true → length x ≡ p → holdsAll zs vs ≡ true → decode zs (x ++ encode zs vs) ≡ vs

@@ -8,7 +8,7 @@ use lib.IntN.{ℤ, pos}
 use Rattle.zones.specs.Class.{Class, digit, blank, permitted, inClass, all}
 use Rattle.zones.specs.Copy.{sameBytes}
 use Rattle.zones.specs.Number.{valueOf, digitsOf}
-use Rattle.amounts.specs.Amounts.{isAmount, amountOf, amountText, hasAmount}
+use Rattle.amounts.specs.Amounts.{isAmount, amountOf, amountText, asWritten, hasAmount}
 use Rattle.amounts.specs.declared.Amount.{Amount}
 use Rattle.amounts.specs.declared.Amount.the-variants.{Value, NoAmount}
 use Rattle.dates.specs.Days.{dateOf, dateText, isDay}
@@ -81,6 +81,17 @@ put w (byte c) v = v ∷ []
 put w number v = digitsOf w v
 put w date v = dateText v
 put w amount v = amountText v
+
+-- a zone's bytes as they are written: only an amount can have stood otherwise
+abbrev pub asWrittenIn : Kind → List ℕ → List ℕ
+asWrittenIn (mark t) z = z
+asWrittenIn blanks z = z
+asWrittenIn (text c) z = z
+asWrittenIn (either c d) z = z
+asWrittenIn (byte c) z = z
+asWrittenIn number z = z
+asWrittenIn date z = z
+asWrittenIn amount z = asWritten z
 
 -- a value that a zone of width w can hold
 abbrev pub holds : ℕ → (k : Kind) → El k → Bool
@@ -159,6 +170,11 @@ decode (zone a z k ∷ zs) b = (get k (part a z b), decode zs b)
 abbrev pub encode : (zs : List Zone) → Values zs → List ℕ
 encode [] v = []
 encode (zone a z k ∷ zs) v = put (z + 1 - a) k (v .0) ++ encode zs (v .1)
+
+-- a record's bytes as they are written, zone by zone
+abbrev pub canon : List Zone → List ℕ → List ℕ
+canon [] b = []
+canon (zone a z k ∷ zs) b = asWrittenIn k (part a z b) ++ canon zs b
 
 -- values that the zones can hold
 abbrev pub holdsAll : (zs : List Zone) → Values zs → Bool

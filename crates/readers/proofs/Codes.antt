@@ -1,19 +1,18 @@
 -- The code in a record's piece tells what the record is.
-use mathlib.Core.Path.{_≡_, refl, ap, _∙_}
+use mathlib.Core.Path.{_≡_, refl, sym, ap, _∙_}
 use mathlib.Core.Bool.{false}
 use mathlib.Core.List.{List}
 use Prim.Native.Nat.{ℕ}
 use Prim.Native.String.{String}
 use native.Mathlib.Omega.{arith}
-use lib.Seq.{take-append-le}
+use lib.ListN.{take}
+use lib.Seq.{take-take}
 use Rattle.zones.specs.Copy.{sameBytes}
 use Rattle.zones.specs.Text.{bytes}
-use Rattle.framing.specs.declared.Form.{Form}
-use Rattle.framing.specs.Files.{endOf, pieceOf}
 use Rattle.grammar.specs.Record.{Rec, isMovement, isComplement, isClosing}
-use Rattle.records.specs.July.{isCode, unknownCode, decodeRecord, encodeRecord, Holds}
+use Rattle.grammar.specs.Files.{Fine, recOf}
+use Rattle.records.specs.July.{recordSize, isCode, unknownCode, decodeRecord, july}
 use Rattle.records.proofs.Coded.{Coded, is01, is04, is05, is07, other, coded}
-use Rattle.records.proofs.Lawful.{july-lawful}
 
 pub record Told (b : List ℕ) (r : Rec) : Type 0 where
   pub four : isCode "04" b ≡ isMovement r
@@ -32,9 +31,8 @@ known b h = by (coded b h)
     by (is07 p a) = rw (a .values) (record { four = other "04" "07" b refl p; five = other "05" "07" b refl p; seven = p })
 
 -- and so it does in the piece of a record
-pub told : (f : Form) (r : Rec) → Holds r → Told (pieceOf f (encodeRecord r)) r
-told f r o =
-    let k = rw (july-lawful .same r o) at (known (encodeRecord r) (july-lawful .fine r o .known)) in
-    let e : (c : String) → isCode c (pieceOf f (encodeRecord r)) ≡ isCode c (encodeRecord r) =
-    λ c. ap (sameBytes (bytes c)) (take-append-le 2 (encodeRecord r) (endOf f) (omega (arith, july-lawful .wide r o))) in
+pub told : (p : List ℕ) → Fine july (take recordSize p) → Told p (recOf july p)
+told p f =
+    let k = known (take recordSize p) (f .known) in
+    let e : (c : String) → isCode c p ≡ isCode c (take recordSize p) = λ c. ap (sameBytes (bytes c)) (sym (take-take 2 recordSize p (omega arith))) in
     record { four = e "04" ∙ k .four; five = e "05" ∙ k .five; seven = e "07" ∙ k .seven }

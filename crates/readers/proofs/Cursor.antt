@@ -1,10 +1,10 @@
 -- In an accepted file the walk goes from statement to statement.
 use mathlib.Core.Path.{_≡_, refl, sym, ap, _∙_}
-use mathlib.Core.List.{List, [], _∷_}
+use mathlib.Core.List.{List, [], _∷_, map}
 use Prim.Native.Nat.{ℕ, suc, _+_, _*_, _<_}
 use native.Mathlib.Nat.{add-zero, zero-mul, suc-mul, add-mul}
 use native.Mathlib.Omega.{arith}
-use lib.ListN.{length, drop, getD}
+use lib.ListN.{length, take, drop, getD}
 use lib.Seq.{drop-cons}
 use Rattle.zones.specs.Choice.{pick}
 use Rattle.framing.specs.declared.Form.{Form}
@@ -12,15 +12,14 @@ use Rattle.framing.specs.Files.{All, widthOf}
 use Rattle.grammar.specs.declared.Key.{Key}
 use Rattle.grammar.specs.Record.{Rec, isClosing}
 use Rattle.grammar.specs.Statements.{Movement, Statement, sizes, allRecords}
-use Rattle.grammar.specs.Files.{Reads}
+use Rattle.grammar.specs.Files.{Fine, recOf, pieces, Reads}
 use Rattle.grammar.specs.Parts.{sizeOf, recordsBefore, nothing}
 use Rattle.grammar.proofs.Parts.{drop-before}
 use Rattle.grammar.proofs.Rows.{addsThen, movesThen, all-cons}
-use Rattle.grammar.proofs.Seam.{piecesFor}
-use Rattle.records.specs.July.{recordSize, repeats, Holds, july, july2004}
+use Rattle.records.specs.July.{recordSize, repeats, july, july2004}
 use Rattle.readers.specs.Places.{endIn, endAfter}
 use Rattle.readers.proofs.Codes.{told}
-use Rattle.readers.proofs.Rows.{before-next, ok-from, pieces-from}
+use Rattle.readers.proofs.Rows.{before-next, pieces-from, records-from, fine-from}
 
 -- the walk over records as values
 module _ (w end : ℕ) where
@@ -28,10 +27,10 @@ module _ (w end : ℕ) where
   endAmong at [] = end
   endAmong at (r ∷ rs) = pick (isClosing r) (at + w) (endAmong (at + w) rs)
 
-  end-pieces : (f : Form) (rs : List Rec) → All Holds rs → (at : ℕ) → endIn w end at (piecesFor july f rs) ≡ endAmong at rs
+  end-pieces : (ps : List (List ℕ)) → All (λ p. Fine july (take recordSize p)) ps → (at : ℕ) → endIn w end at ps ≡ endAmong at (map (recOf july) ps)
   unfolding endIn
-  end-pieces f [] o at = refl
-  end-pieces f (r ∷ rs) o at = rw (told f r (o .0) .seven, end-pieces f rs (o .1) (at + w))
+  end-pieces [] o at = refl
+  end-pieces (p ∷ ps) o at = rw (told p (o .0) .seven, end-pieces ps (o .1) (at + w))
 
   -- 05 are passed over
   end-adds : (e : List ℕ) (ts : List (List ℕ)) (l : List Rec) (at : ℕ) → endAmong at (addsThen e ts l) ≡ endAmong (at + length ts * w) l
@@ -67,4 +66,4 @@ module _ {f : Form} {b : List ℕ} {ss : List Statement} (r : Reads july f b ss)
       let s = getD ss j nothing in
       let z : endAmong w (length b) (m * w) rs ≡ m * w + sizeOf s * w =
       rw (drop-before july2004 j ss, drop-cons ss j nothing h) (end-one w (length b) s (drop (suc j) ss) (m * w)) in
-      rw (r .line, pieces-from r m) (end-pieces w (length b) f rs (ok-from r m) (m * w) ∙ z ∙ rw (before-next j ss h) (sym (add-mul m (sizeOf s) w)))
+      rw (r .line, pieces-from r m) (end-pieces w (length b) (drop m (pieces july f b)) (fine-from r m) (m * w) ∙ ap (endAmong w (length b) (m * w)) (records-from r m) ∙ z ∙ rw (before-next j ss h) (sym (add-mul m (sizeOf s) w)))

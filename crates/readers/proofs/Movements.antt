@@ -1,6 +1,6 @@
 -- In an accepted file the step goes from movement to movement, and finds none at the 07.
-use mathlib.Core.Path.{_≡_, refl, sym, ap₂, _∙_}
-use mathlib.Core.List.{List, [], _∷_}
+use mathlib.Core.Path.{_≡_, refl, sym, ap, ap₂, _∙_}
+use mathlib.Core.List.{List, [], _∷_, map}
 use Prim.Native.Nat.{ℕ, zero, suc, _+_, _*_, _<_}
 use native.Mathlib.Nat.{add-zero, zero-add, zero-mul, suc-mul, add-mul}
 use native.Mathlib.Numerals.{add-one}
@@ -14,16 +14,15 @@ use Rattle.framing.specs.Files.{All, widthOf}
 use Rattle.grammar.specs.declared.Key.{Key}
 use Rattle.grammar.specs.Record.{Rec, movement, closing, isMovement, isComplement}
 use Rattle.grammar.specs.Statements.{Movement, Statement, sizes, allRecords}
-use Rattle.grammar.specs.Files.{Reads}
+use Rattle.grammar.specs.Files.{Fine, recOf, pieces, Reads}
 use Rattle.grammar.specs.Parts.{recordsBefore, nothing}
 use Rattle.grammar.proofs.Parts.{drop-before}
 use Rattle.grammar.proofs.Rows.{addsThen, movesThen, all-cons}
-use Rattle.grammar.proofs.Seam.{piecesFor}
-use Rattle.records.specs.July.{recordSize, repeats, Holds, july, july2004}
+use Rattle.records.specs.July.{recordSize, repeats, july, july2004}
 use Rattle.readers.specs.declared.Step.{Step}
 use Rattle.readers.specs.Steps.{foundStep, noStep, stepOver, stepIn, stepOf}
 use Rattle.readers.proofs.Codes.{told}
-use Rattle.readers.proofs.Rows.{drop-adds, ok-from, pieces-from}
+use Rattle.readers.proofs.Rows.{drop-adds, pieces-from, records-from, fine-from}
 
 -- the walk over records as values
 module _ (w : ℕ) where
@@ -31,10 +30,10 @@ module _ (w : ℕ) where
   overAmong n at [] = foundStep n at
   overAmong n at (r ∷ rs) = pick (isComplement r) (overAmong (n + 1) (at + w) rs) (foundStep n at)
 
-  over-pieces : (f : Form) (rs : List Rec) → All Holds rs → (n at : ℕ) → stepOver w n at (piecesFor july f rs) ≡ overAmong n at rs
+  over-pieces : (ps : List (List ℕ)) → All (λ p. Fine july (take recordSize p)) ps → (n at : ℕ) → stepOver w n at ps ≡ overAmong n at (map (recOf july) ps)
   unfolding stepOver
-  over-pieces f [] o n at = refl
-  over-pieces f (r ∷ rs) o n at = rw (told f r (o .0) .five, over-pieces f rs (o .1) (n + 1) (at + w))
+  over-pieces [] o n at = refl
+  over-pieces (p ∷ ps) o n at = rw (told p (o .0) .five, over-pieces ps (o .1) (n + 1) (at + w))
 
   -- 05 are counted
   over-adds : (e : List ℕ) (ts : List (List ℕ)) (l : List Rec) (n at : ℕ) → overAmong n at (addsThen e ts l) ≡ overAmong (n + length ts) (at + length ts * w) l
@@ -54,10 +53,10 @@ module _ (w : ℕ) where
   stepAmong end at [] = noStep end
   stepAmong end at (r ∷ rs) = pick (isMovement r) (overAmong 0 (at + w) rs) (noStep end)
 
-  step-pieces : (f : Form) (rs : List Rec) → All Holds rs → (end at : ℕ) → stepIn w end at (piecesFor july f rs) ≡ stepAmong end at rs
+  step-pieces : (ps : List (List ℕ)) → All (λ p. Fine july (take recordSize p)) ps → (end at : ℕ) → stepIn w end at ps ≡ stepAmong end at (map (recOf july) ps)
   unfolding stepIn
-  step-pieces f [] o end at = refl
-  step-pieces f (r ∷ rs) o end at = rw (told f r (o .0) .four, over-pieces f rs (o .1) 0 (at + w))
+  step-pieces [] o end at = refl
+  step-pieces (p ∷ ps) o end at = rw (told p (o .0) .four, over-pieces ps (o .1) 0 (at + w))
 
 -- behind i movements stand the others
 drop-moves : (k : Key) (i : ℕ) (ms : List Movement) (l : List Rec) → drop (sizes (take i ms)) (movesThen july2004 k ms l) ≡ movesThen july2004 k (drop i ms) l
@@ -104,7 +103,7 @@ module _ {f : Form} {b : List ℕ} {ss : List Statement} (r : Reads july f b ss)
   step-at : (i : ℕ) → stepOf b f (before i * widthOf recordSize f)
       ≡ stepAmong (widthOf recordSize f) (length b) (before i * widthOf recordSize f) (drop (before i) (allRecords july2004 ss))
   unfolding stepOf
-  step-at i = rw (r .line, pieces-from r (before i)) (step-pieces (widthOf recordSize f) f (drop (before i) (allRecords july2004 ss)) (ok-from r (before i)) (length b) (before i * widthOf recordSize f))
+  step-at i = rw (r .line, pieces-from r (before i)) (step-pieces (widthOf recordSize f) (drop (before i) (pieces july f b)) (fine-from r (before i)) (length b) (before i * widthOf recordSize f) ∙ ap (stepAmong (widthOf recordSize f) (length b) (before i * widthOf recordSize f)) (records-from r (before i)))
 
   -- THE STEP: from the place of a movement to the place after it, with the number of its 05
   pub movement-there : (i : ℕ) {m : Movement} {ms : List Movement} → drop i (getD ss j nothing .movements) ≡ m ∷ ms

@@ -1,22 +1,23 @@
 -- Where the records of a file stand: behind the records of some statements, and in the file's bytes.
 use mathlib.Core.Path.{_≡_, sym, ap, _∙_}
-use mathlib.Core.List.{List, [], _∷_}
+use mathlib.Core.List.{List, [], _∷_, map}
 use Prim.Native.Nat.{ℕ, zero, suc, _+_, _*_, _/_, _<_}
 use native.Mathlib.Nat.{zero-add, suc-add, mul-div-cancel}
 use native.Mathlib.Numerals.{add-one}
 use native.Mathlib.Omega.{arith}
-use lib.ListN.{length, drop, getD}
+use lib.ListN.{length, take, drop, getD}
 use Rattle.zones.specs.Pieces.{flat}
 use Rattle.framing.specs.declared.Form.{Form}
-use Rattle.framing.specs.Files.{All, widthOf, chunks, piecesOf, fileOf}
+use Rattle.framing.specs.Files.{All, widthOf, chunks, piecesOf}
 use Rattle.framing.proofs.Cuts.{Wide, chunks-flat, length-flat, flat-drop}
 use Rattle.grammar.specs.Record.{Rec}
 use Rattle.grammar.specs.Statements.{Statement, allRecords}
-use Rattle.grammar.specs.Files.{layoutOf, Reads}
+use Rattle.grammar.specs.Files.{Fine, recOf, pieces, Reads}
 use Rattle.grammar.specs.Parts.{sizeOf, recordsBefore, nothing}
 use Rattle.grammar.proofs.Rows.{addsThen}
 use Rattle.grammar.proofs.Parts.{all-drop, map-drop}
-use Rattle.grammar.proofs.Seam.{piecesFor, wide-pieces}
+use Rattle.grammar.proofs.Canonical.{wide-all}
+use Rattle.grammar.proofs.Exact.{reads-flat, reads-records, reads-fine}
 use Rattle.records.specs.July.{recordSize, Holds, july, july2004}
 use Rattle.records.proofs.Lawful.{july-lawful}
 
@@ -50,19 +51,20 @@ module _ {f : Form} {b : List ℕ} {ss : List Statement} (r : Reads july f b ss)
   ok-from n = all-drop Holds n (allRecords july2004 ss) (r .ok)
 
   -- the bytes from record n on, from 0, are those of the records from it on
-  pub from-record : (n : ℕ) → drop (n * widthOf recordSize f) b ≡ flat (piecesFor july f (drop n (allRecords july2004 ss)))
-  unfolding layoutOf fileOf
+  pub from-record : (n : ℕ) → drop (n * widthOf recordSize f) b ≡ flat (drop n (pieces july f b))
   from-record n =
-      let w = widthOf recordSize f in
-      let rs = allRecords july2004 ss in
-      let g : drop n (piecesFor july f rs) ≡ piecesFor july f (drop n rs) = simp map-drop in
-      ap (drop (n * w)) (sym (r .layout))
-      ∙ flat-drop w n (piecesFor july f rs) (wide-pieces july f july-lawful (r .line) rs (r .ok))
-      ∙ ap flat g
+      ap (drop (n * widthOf recordSize f)) (sym (reads-flat july july-lawful r)) ∙ flat-drop (widthOf recordSize f) n (pieces july f b) (wide-all july july-lawful f b)
 
   -- and are cut into their pieces
-  pub pieces-from : (n : ℕ) → piecesOf recordSize f (drop (n * widthOf recordSize f) b) ≡ piecesFor july f (drop n (allRecords july2004 ss))
+  pub pieces-from : (n : ℕ) → piecesOf recordSize f (drop (n * widthOf recordSize f) b) ≡ drop n (pieces july f b)
   pieces-from n =
-      let rs = drop n (allRecords july2004 ss) in
       ap (piecesOf recordSize f) (from-record n)
-      ∙ pieces-flat (widthOf recordSize f) (piecesFor july f rs) (some f) (wide-pieces july f july-lawful (r .line) rs (ok-from n))
+      ∙ pieces-flat (widthOf recordSize f) (drop n (pieces july f b)) (some f) (all-drop _ n (pieces july f b) (wide-all july july-lawful f b))
+
+  -- which hold the records
+  pub records-from : (n : ℕ) → map (recOf july) (drop n (pieces july f b)) ≡ drop n (allRecords july2004 ss)
+  records-from n = sym (map-drop (recOf july) n (pieces july f b)) ∙ ap (drop n) (reads-records july july-lawful r)
+
+  -- and are fine
+  pub fine-from : (n : ℕ) → All (λ p. Fine july (take recordSize p)) (drop n (pieces july f b))
+  fine-from n = all-drop _ n (pieces july f b) (reads-fine july july-lawful r)

@@ -1,6 +1,6 @@
 -- What a loop over the statements of an accepted file goes by: it starts at 0, and goes on from a statement's place to its end while it is before the file's.
-use mathlib.Core.Path.{_≡_, ap, _∙_}
-use mathlib.Core.List.{List}
+use mathlib.Core.Path.{_≡_, refl, ap, _∙_}
+use mathlib.Core.List.{List, [], _∷_, map}
 use Prim.Native.Nat.{ℕ, _+_, _-_, _*_, _<_, _≤_}
 use native.Mathlib.Nat.{add-mul, add-sub-cancel-left, mul-le-mul-right}
 use native.Mathlib.Omega.{arith}
@@ -10,16 +10,20 @@ use Rattle.zones.specs.Pieces.{flat}
 use Rattle.framing.specs.declared.Form.{Form}
 use Rattle.framing.specs.Files.{widthOf}
 use Rattle.grammar.specs.Statements.{Statement, allRecords}
-use Rattle.grammar.specs.Files.{Reads, statementsOf}
+use Rattle.grammar.specs.Files.{recOf, pieces, Reads, statementsOf}
 use Rattle.grammar.specs.Parts.{sizeOf, recordsBefore, nothing, partOf}
 use Rattle.grammar.proofs.Parts.{drop-before}
-use Rattle.grammar.proofs.Seam.{piecesFor}
 use Rattle.records.specs.July.{recordSize, july, july2004}
 use Rattle.records.proofs.Theorems.{counts, reads, unique}
 use Rattle.readers.specs.Places.{endAfter}
-use Rattle.readers.proofs.Rows.{some, before-next, from-record}
+use Rattle.readers.proofs.Rows.{some, before-next, from-record, records-from}
 use Rattle.readers.proofs.Cursor.{cursor}
 use Rattle.readers.proofs.Placed.{before-inside}
+
+-- no records, no pieces
+no-pieces : (ps : List (List ℕ)) → map (recOf july) ps ≡ [] → ps ≡ []
+no-pieces [] e = refl
+no-pieces (p ∷ ps) e = absurd (let z : _≡_ {A = ℕ} 0 1 = cc in omega arith)
 
 module _ {f : Form} {b : List ℕ} {ss : List Statement} (r : Reads july f b ss) where
   -- the place of a statement lies before the file's end
@@ -38,9 +42,10 @@ module _ {f : Form} {b : List ℕ} {ss : List Statement} (r : Reads july f b ss)
   pub after-last : recordsBefore (length ss) ss * widthOf recordSize f ≡ length b
   unfolding flat allRecords
   after-last =
-      let m = recordsBefore (length ss) ss * widthOf recordSize f in
+      let n = recordsBefore (length ss) ss in
+      let m = n * widthOf recordSize f in
       let e : length (drop m b) ≡ 0 =
-      ap length (from-record r (recordsBefore (length ss) ss) ∙ ap (λ l. flat (piecesFor july f l)) (drop-before july2004 (length ss) ss ∙ ap (allRecords july2004) (drop-length ss))) in
+      ap length (from-record r n ∙ ap flat (no-pieces (drop n (pieces july f b)) (records-from r n ∙ (drop-before july2004 (length ss) ss ∙ ap (allRecords july2004) (drop-length ss))))) in
       omega (arith, e, length-drop m b, before-inside r (length ss) (omega arith))
 
   -- what lies between the two places is statement j + 1

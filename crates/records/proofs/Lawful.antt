@@ -1,5 +1,5 @@
 -- The records of July 2004 are a lawful coding.
-use mathlib.Core.Path.{_≡_, ap, _∙_}
+use mathlib.Core.Path.{_≡_, ap, sym, _∙_}
 use mathlib.Core.Bool.{true}
 use mathlib.Core.List.{List}
 use Prim.Native.Nat.{ℕ}
@@ -9,16 +9,17 @@ use lib.Seq.{length-take-le}
 use lib.IntN.{ℤ}
 use Rattle.zones.specs.Text.{bytes}
 use Rattle.zones.proofs.Copies.{equal-same}
-use Rattle.layouts.specs.Zone.{part, Values, encode}
+use Rattle.layouts.specs.Zone.{part, encode, canon}
 use Rattle.layouts.proofs.PerLayout.{Fits, encode-decode, holds-decode, decode-encode}
 use Rattle.grammar.specs.declared.Key.{Key}
 use Rattle.grammar.specs.Record.{Posting, Rec, opening, movement, complement, closing}
 use Rattle.grammar.specs.Files.{Fine, Lawful}
 use Rattle.records.specs.Layouts.{layout01, layout04, layout07}
-use Rattle.records.specs.July.{recordSize, isCode, layout05Of, decodeRecord, balanceValues, movementValues, writeBalance, writeMovement, writeComplement, encodeRecord, HoldsComplement, Holds, july}
+use Rattle.records.specs.July.{recordSize, isCode, layout05Of, layoutOf, decodeRecord, balanceValues, movementValues, writeBalance, writeMovement, writeComplement, encodeRecord, HoldsComplement, Holds, canonRecord, july}
 use Rattle.records.proofs.Covered.{covers01, covers04, covers07}
 use Rattle.records.proofs.Coded.{As, as01, as04, as05, as07, Coded, is01, is04, is05, is07, coded}
 use Rattle.records.proofs.Valued.{Judged, judged, fine, written-length, written-judged, written-marks, written-permitted}
+use Rattle.records.proofs.Canon.{balanceIn, movementIn, canon05, alike}
 use Rattle.records.proofs.Complements.{complement-again, placed, complement-permitted}
 
 -- BYTES TO VALUES
@@ -31,15 +32,15 @@ fits04 b h j = record { marks = h; zones = j .zones; dates = j .dates }
 fits07 : (b : List ℕ) → isCode "07" b ≡ true → Judged layout07 b → Fits layout07 b
 fits07 b h j = record { marks = h; zones = j .zones; dates = j .dates }
 
-again : (b : List ℕ) → length b ≡ recordSize → Fine july b → encodeRecord (decodeRecord b) ≡ b
-unfolding writeBalance writeMovement
+again : (b : List ℕ) → length b ≡ recordSize → Fine july b → encodeRecord (decodeRecord b) ≡ canonRecord b
+unfolding writeBalance writeMovement canonRecord
 again b l f = by (coded b (f .known))
   where
-    by : Coded b → encodeRecord (decodeRecord b) ≡ b
-    by (is01 h a) = ap encodeRecord (a .values) ∙ encode-decode recordSize layout01 b covers01 l (fits01 b h (judged l a f))
-    by (is04 h a) = ap encodeRecord (a .values) ∙ encode-decode recordSize layout04 b covers04 l (fits04 b h (judged l a f))
-    by (is05 h a) = ap encodeRecord (a .values) ∙ complement-again b l h (judged l a f)
-    by (is07 h a) = ap encodeRecord (a .values) ∙ encode-decode recordSize layout07 b covers07 l (fits07 b h (judged l a f))
+    by : Coded b → encodeRecord (decodeRecord b) ≡ canon (layoutOf b) b
+    by (is01 h a) = rw (a .layout) (ap encodeRecord (a .values) ∙ encode-decode recordSize layout01 b covers01 l (fits01 b h (judged l a f)))
+    by (is04 h a) = rw (a .layout) (ap encodeRecord (a .values) ∙ encode-decode recordSize layout04 b covers04 l (fits04 b h (judged l a f)))
+    by (is05 h a) = rw (a .layout) (ap encodeRecord (a .values) ∙ complement-again b l h (judged l a f) ∙ sym (canon05 b l))
+    by (is07 h a) = rw (a .layout) (ap encodeRecord (a .values) ∙ encode-decode recordSize layout07 b covers07 l (fits07 b h (judged l a f)))
 
 complement-ok : (b : List ℕ) → length b ≡ recordSize → isCode "05" b ≡ true → Judged (layout05Of (part 46 118 b)) b → HoldsComplement (part 3 40 b) (part 46 118 b)
 complement-ok b l h j =
@@ -61,28 +62,6 @@ ok b l f = by (coded b (f .known))
     by (is07 h a) = rw (a .values) (holds-decode recordSize layout07 b covers07 l (fits07 b h (judged l a f)))
 
 -- VALUES TO BYTES
-balanceIn : (Key → ℕ → ℤ → Rec) → Values layout01 → Rec
-balanceIn r v =
-    r (record { bank = v .1 .0; branch = v .1 .1 .1 .0; currency = v .1 .1 .1 .1 .0; decimals = v .1 .1 .1 .1 .1 .0; account = v .1 .1 .1 .1 .1 .1 .1 .0 })
-    (v .1 .1 .1 .1 .1 .1 .1 .1 .1 .0) (v .1 .1 .1 .1 .1 .1 .1 .1 .1 .1 .1 .0)
-
-movementIn : Values layout04 → Rec
-movementIn v =
-    movement (record { bank = v .1 .0; branch = v .1 .1 .1 .0; currency = v .1 .1 .1 .1 .0; decimals = v .1 .1 .1 .1 .1 .0; account = v .1 .1 .1 .1 .1 .1 .1 .0 })
-    (record {
-      internal = v .1 .1 .0;
-      code = v .1 .1 .1 .1 .1 .1 .1 .1 .0;
-      booked = v .1 .1 .1 .1 .1 .1 .1 .1 .1 .0;
-      reject = v .1 .1 .1 .1 .1 .1 .1 .1 .1 .1 .0;
-      value = v .1 .1 .1 .1 .1 .1 .1 .1 .1 .1 .1 .0;
-      label = v .1 .1 .1 .1 .1 .1 .1 .1 .1 .1 .1 .1 .0;
-      entry = v .1 .1 .1 .1 .1 .1 .1 .1 .1 .1 .1 .1 .1 .1 .0;
-      exempt = v .1 .1 .1 .1 .1 .1 .1 .1 .1 .1 .1 .1 .1 .1 .1 .0;
-      unavailable = v .1 .1 .1 .1 .1 .1 .1 .1 .1 .1 .1 .1 .1 .1 .1 .1 .0;
-      amount = v .1 .1 .1 .1 .1 .1 .1 .1 .1 .1 .1 .1 .1 .1 .1 .1 .1 .0;
-      reference = v .1 .1 .1 .1 .1 .1 .1 .1 .1 .1 .1 .1 .1 .1 .1 .1 .1 .1 .0;
-    })
-
 -- a written record has its code, its layout and its values
 as-opening : (k : Key) (d : ℕ) (a : ℤ) → Holds (opening k d a) → As (writeBalance "01" k d a) layout01 (opening k d a)
 unfolding writeBalance balanceIn
@@ -147,6 +126,7 @@ july-lawful =
     record {
       some = omega arith;
       ok = ok;
+      alike = alike;
       again = again;
       wide = wide;
       fine = written-fine;

@@ -1,18 +1,51 @@
 -- The worked files, by computation from the definitions.
-use mathlib.Core.Path.{_≡_, refl}
+use mathlib.Core.Path.{_≡_, refl, ap, _∙_}
+use mathlib.Core.Bool.{false}
+use mathlib.Core.List.{List, map}
+use Prim.Native.Nat.{ℕ}
+use Prim.Native.String.{String}
+use lib.ListN.{getD}
 use Rattle.zones.specs.Class.{every}
 use Rattle.zones.specs.Copy.{sameBytes}
 use Rattle.zones.specs.Number.{valueFrom, digitsInto}
-use Rattle.amounts.specs.Amounts.{signIndex, signOf, isDebit, magnitude, amountOf, signedText}
+use Rattle.zones.specs.Text.{bytes}
+use Rattle.amounts.specs.Amounts.{signIndex, signOf, isDebit, magnitude, amountOf, signedText, asWritten}
 use Rattle.dates.specs.Days.{yearOf, daysIn, exists, dayOf, dateOf, dateText}
+use Rattle.framing.specs.declared.Form.{Form}
 use Rattle.framing.specs.Files.{endOf, widthOf, chunks}
+use Rattle.grammar.specs.Answer.{Counts, Answer, accepted, refused}
 use Rattle.grammar.specs.Record.{sameKey}
 use Rattle.grammar.specs.Machine.{judgeOf, scan}
 use Rattle.grammar.specs.Rules.{outOfPlace, differs, misdated, unsummed, secondMmo, tooLong}
-use Rattle.grammar.specs.Files.{checkOf}
-use Rattle.records.specs.July.{unknownCode, isMmo, layoutOf, misfit, undated, decodeRecord, writeMovement, repeats}
-use Rattle.records.specs.Worked.{cases, answers, expected}
+use Rattle.grammar.specs.Files.{pieces, canonical, checkOf}
+use Rattle.grammar.specs.Demand.{Demand2}
+use Rattle.grammar.proofs.Exact.{written-given}
+use Rattle.records.specs.July.{unknownCode, isMmo, layoutOf, misfit, undated, decodeRecord, writeMovement, repeats, canonRecord, noDebitZero, july}
+use Rattle.records.specs.Worked.{nil, counts, cases, written, answers, expected}
+use Rattle.records.proofs.Lawful.{july-lawful}
+use Rattle.records.proofs.Theorems.{reads}
 
 pub worked : answers cases ≡ expected cases
 unfolding every sameBytes valueFrom digitsInto signIndex signOf isDebit magnitude amountOf signedText yearOf daysIn exists dayOf dateOf dateText endOf widthOf chunks sameKey judgeOf scan outOfPlace differs misdated unsummed secondMmo tooLong checkOf unknownCode isMmo layoutOf misfit undated decodeRecord writeMovement repeats
 worked = refl
+
+-- the empty account, one of them, is accepted
+nil-accepted : checkOf july (record { «line_end» = 1 }) nil ≡ counts 1 0 0
+nil-accepted = ap (λ l. getD l 16 (refused 0 0)) worked
+
+-- and has a debit zero
+nil-debit : noDebitZero (pieces july (record { «line_end» = 1 }) nil) ≡ false
+unfolding noDebitZero sameBytes chunks widthOf
+nil-debit = refl
+
+-- so a check that refuses files for a debit zero does not meet demand 2
+pub refuses-debit-zero : (check : Form → List ℕ → Answer)
+    → ((f : Form) (b : List ℕ) (c : Counts) → noDebitZero (pieces july f b) ≡ false → check f b ≡ accepted c → ⊥) → Demand2 july check → ⊥
+refuses-debit-zero check refuses d =
+    let f : Form = record { «line_end» = 1 } in
+    let r = reads f nil nil-accepted in
+    refuses f nil _ nil-debit (d .alike f nil ∙ d .accepts f (canonical july f nil) _ (written-given july july-lawful r))
+
+pub worked-written : map {A = String × String} {B = List ℕ} (λ p. canonRecord (bytes (p .0))) written ≡ map (λ p. bytes (p .1)) written
+unfolding canonRecord layoutOf isMmo sameBytes asWritten
+worked-written = refl

@@ -1,7 +1,7 @@
 -- The records of July 2004: what their bytes hold, how values are written, and the rules 6, 8 and 9.
 use mathlib.Core.Path.{_≡_}
 use mathlib.Core.Bool.{Bool, true, not, _&&_, _||_}
-use mathlib.Core.List.{List, _++_}
+use mathlib.Core.List.{List, [], _∷_, _++_}
 use Prim.Native.Nat.{ℕ}
 use Prim.Native.String.{String}
 use lib.Dec.{eqb}
@@ -11,9 +11,9 @@ use Rattle.zones.specs.Choice.{pick}
 use Rattle.zones.specs.Copy.{sameBytes}
 use Rattle.zones.specs.Number.{valueOf}
 use Rattle.zones.specs.Text.{bytes}
-use Rattle.amounts.specs.Amounts.{amountOf}
+use Rattle.amounts.specs.Amounts.{amountOf, debitZero}
 use Rattle.dates.specs.Days.{dateOf}
-use Rattle.layouts.specs.Zone.{part, Kind, Ask, Zone, dayIn, valueIn, zoned, dated, run, Values, encode, holdsAll}
+use Rattle.layouts.specs.Zone.{part, Kind, Ask, Zone, dayIn, valueIn, zoned, dated, run, Values, encode, canon, holdsAll}
 use Rattle.grammar.specs.declared.Key.{Key}
 use Rattle.grammar.specs.Record.{Posting, Rec, opening, movement, complement, closing, Edition}
 use Rattle.grammar.specs.Files.{Coding}
@@ -177,6 +177,19 @@ Holds (movement k p) = holdsAll layout04 (movementValues k p) ≡ true
 Holds (complement e t) = HoldsComplement e t
 Holds (closing k d a) = holdsAll layout07 (balanceValues "07" k d a) ≡ true
 
+-- A record as it is written, by its layout: the amount of an 01, 04 or 07 with `{` for a debit zero; a 05 as it stands.
+unfoldable pub canonRecord : List ℕ → List ℕ
+canonRecord b = canon (layoutOf b) b
+
+-- a debit zero stands where an 01, 04 or 07 has its amount
+abbrev pub hasDebitZero : List ℕ → Bool
+hasDebitZero b = not (isCode "05" b) && sameBytes (part 91 104 b) debitZero
+
+-- none stands in a row of records, each with what stands after it
+unfoldable pub noDebitZero : List (List ℕ) → Bool
+noDebitZero [] = true
+noDebitZero (p ∷ ps) = not (hasDebitZero (take recordSize p)) && noDebitZero ps
+
 abbrev pub july2004 : Edition
 july2004 = record { repeats = repeats; isMmo = isMmo; mostInStatement = mostInStatement; mostInFile = mostInFile }
 
@@ -187,6 +200,7 @@ july =
       edition = july2004;
       decode = decodeRecord;
       encode = encodeRecord;
+      canon = canonRecord;
       Ok = Holds;
       unknownCode = unknownCode;
       misfit = misfit;

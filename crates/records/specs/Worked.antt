@@ -39,6 +39,19 @@ elsewhere = "0712345    00011EUR2 0001234567A  280225                           
 abbrev pub lowercase : String
 lowercase = "0712345    00010eur2 0001234567A  280225                                                  0000000012083C                "
 
+-- an empty account's balances, as two banks write them; a credit of 7; a 05 with the same bytes in its information
+abbrev pub nil-old : String
+nil-old = "0112345    00010EUR2 0001234567A  310125                                                  0000000000000}                "
+
+abbrev pub nil-new : String
+nil-new = "0712345    00010EUR2 0001234567A  280225                                                  0000000000000}                "
+
+abbrev pub seven : String
+seven = "0412345    00010EUR2 0001234567A05050225  060225                                 0000000000000000000000G                "
+
+abbrev pub note : String
+note = "0512345    00010EUR2 0001234567A05050225     LIB                                          0000000000000}                "
+
 -- records end to end, each with what stands after it
 abbrev pub file : List ℕ → List String → List ℕ
 file end [] = []
@@ -52,6 +65,10 @@ lf rs = file (10 ∷ []) rs
 
 abbrev pub crlf : List String → List ℕ
 crlf rs = file (13 ∷ 10 ∷ []) rs
+
+-- an empty account
+abbrev pub nil : List ℕ
+nil = lf (nil-old ∷ nil-new ∷ [])
 
 pub record Case : Type 0 where
   pub line-end : ℕ
@@ -82,6 +99,18 @@ cases =
     ∷ case 0 (plain (old ∷ receipt ∷ debit ∷ early ∷ [])) (refused 12 4)
     ∷ case 0 (plain (old ∷ receipt ∷ debit ∷ unsummed ∷ [])) (refused 13 4)
     ∷ case 0 (plain (old ∷ receipt ∷ [])) (refused 14 2)
+    ∷ case 1 nil (counts 1 0 0)
+    ∷ case 0 (plain (nil-old ∷ seven ∷ nil-new ∷ [])) (refused 13 3)
+    ∷ []
+
+-- records and what they are written as
+abbrev pub written : List (String × String)
+written =
+    (nil-old, "0112345    00010EUR2 0001234567A  310125                                                  0000000000000{                ")
+    ∷ (nil-new, "0712345    00010EUR2 0001234567A  280225                                                  0000000000000{                ")
+    ∷ (old, old)
+    ∷ (seven, seven)
+    ∷ (note, note)
     ∷ []
 
 abbrev pub answers : List Case → List Answer

@@ -4,7 +4,7 @@ use mathlib.Core.List.{List}
 use Prim.Native.Nat.{ℕ}
 use Rattle.framing.specs.declared.Form.{Form}
 use Rattle.grammar.specs.Answer.{Answer, accepted, refused}
-use Rattle.grammar.specs.Files.{checkOf, Ruled}
+use Rattle.grammar.specs.Files.{canonical, checkOf, Ruled}
 use Rattle.grammar.specs.Demand.{Demand2}
 use Rattle.records.specs.July.{july}
 use Rattle.records.proofs.Theorems.{demand2, ruled}
@@ -25,6 +25,7 @@ check-ruled {f} {b} c = rw (check-answer c) (ruled f b)
 pub check-demand2 : (check : Form → List ℕ → Checked) → ((f : Form) (b : List ℕ) → Check f b (check f b)) → Demand2 july (λ f b. answerOf (check f b))
 check-demand2 check c =
     record {
-      accepts = λ f b ss r. check-answer (c f b) ∙ demand2 .accepts f b ss r;
-      only = λ f b n e. demand2 .only f b n (sym (check-answer (c f b)) ∙ e);
+      accepts = λ f b ss g. check-answer (c f b) ∙ demand2 .accepts f b ss g;
+      only = λ f b n o e. demand2 .only f b n o (sym (check-answer (c f b)) ∙ e);
+      alike = λ f b. check-answer (c f b) ∙ demand2 .alike f b ∙ sym (check-answer (c f (canonical july f b)));
     }

@@ -24,6 +24,7 @@ use Rattle.records.specs.July.{recordSize, july, july2004, unknownCode, isMmo, 
 use Rattle.records.specs.Looks.{kindOf, lookOf}
 use Rattle.records.specs.declared.Look.{Look}
 use Rattle.records.proofs.Lawful.{july-lawful}
+use Rattle.records.proofs.Canon.{front-kept}
 use Rattle.statements.specs.declared.Progress.{Progress}
 use Rattle.statements.specs.Progress.{begin, afterOpening, afterMovement, afterComplement, afterClosing, nextOf, Flags, modeOf, recordAt, flagsOf, stateOf, Small}
 use Rattle.statements.proofs.Modes.{View, one, four, five, seven, view}
@@ -202,7 +203,7 @@ record Follows (file b : List ℕ) (p q : Progress) : Type 0 where
 -- what a 04 gives its 05 to repeat are its own bytes
 repeats-own : (b : List ℕ) → length b ≡ recordSize → Fine july b → decodeRecord b ≡ movement (keyIn b) (postingIn b) → repeats (keyIn b) (postingIn b) ≡ part 3 40 b
 unfolding repeats
-repeats-own b l f e = ap (part 3 40) (sym (ap encodeRecord e) ∙ july-lawful .again b l f)
+repeats-own b l f e = ap (part 3 40) (sym (ap encodeRecord e) ∙ july-lawful .again b l f) ∙ front-kept b l 3 40 (omega arith) (omega arith) (omega arith)
 
 module _ {at : ℕ} {file b : List ℕ} {p : Progress} {k : Look} (g : Good at file b p k) where
   whole : lookOf b ≡ record { unknown = unknownCode b; kind = kindOf b; misfit = misfit b; undated = undated b; day = dateIn b; amount = amountIn b; mmo = isMmo (part 46 118 b); permitted = all permitted b }

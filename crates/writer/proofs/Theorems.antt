@@ -3,27 +3,26 @@ use mathlib.Core.Path.{_≡_, refl, sym, ap, ap₂, _∙_}
 use mathlib.Core.Logic.{_↔_}
 use mathlib.Core.Bool.{Bool, true, false}
 use mathlib.Core.List.{List, [], _∷_, _++_, map, append-nil}
-use Prim.Native.Nat.{ℕ, _+_, _-_, _<_}
-use native.Mathlib.Nat.{zero-mul}
+use Prim.Native.Nat.{ℕ, _+_, _<_}
 use native.Mathlib.Omega.{arith}
 use lib.Dec.{ltb}
 use lib.ListN.{length, take, getD}
-use lib.Seq.{take-at}
 use Rattle.zones.specs.Choice.{pick}
 use Rattle.zones.specs.Pieces.{flat}
 use Rattle.framing.specs.declared.Form.{Form}
-use Rattle.framing.specs.Files.{All, fileOf, endOf, piecesOf, widthOf}
+use Rattle.framing.specs.Files.{All, fileOf, endOf}
 use Rattle.grammar.specs.Record.{Rec}
 use Rattle.grammar.specs.Statements.{Statement, recordsOfMovements, recordsOf, allRecords}
-use Rattle.grammar.specs.Files.{Reads, Writable, layoutOf}
+use Rattle.grammar.specs.Files.{pieces, canonical, layoutOf, Reads, Writable}
 use Rattle.grammar.specs.Parts.{nothing, partOf}
-use Rattle.grammar.proofs.Seam.{piecesFor}
+use Rattle.grammar.proofs.Seam.{piecesFor, bodies-pieces}
+use Rattle.grammar.proofs.Canonical.{pieces-canonical}
+use Rattle.grammar.proofs.Exact.{gives-reads, reads-pieces}
 use Rattle.grammar.proofs.Trips.{one-records}
-use Rattle.records.specs.July.{recordSize, Holds, july, july2004, encodeRecord}
+use Rattle.records.specs.July.{recordSize, Holds, july, july2004, encodeRecord, noDebitZero}
 use Rattle.records.proofs.Lawful.{july-lawful}
 use Rattle.records.proofs.Theorems as records
 use Rattle.fields.specs.declared.Movement.{Movement}
-use Rattle.readers.proofs.Rows.{pieces-from}
 use Rattle.contents.specs.Heads.{headFrom}
 use Rattle.contents.specs.declared.Head.{Head}
 use Rattle.tables.specs.Tables.{rowsOf}
@@ -41,11 +40,6 @@ unfolding fileOf flat endOf
 plain-file [] = refl
 plain-file (r ∷ rs) = ap₂ _++_ (append-nil (encodeRecord r)) (plain-file rs)
 
--- a record with its line end, cut off again
-cut-again : (f : Form) (rs : List Rec) → All Holds rs → map (take recordSize) (piecesFor july f rs) ≡ map encodeRecord rs
-cut-again f [] o = refl
-cut-again f (r ∷ rs) o = ap₂ _∷_ (take-at (encodeRecord r) (endOf f) recordSize (july-lawful .wide r (o .0))) (cut-again f rs (o .1))
-
 module _ (h : Head) (rows : List Movement) (cs : List ℕ) where
   abbrev s : Statement
   s = statementFrom h rows cs
@@ -55,13 +49,14 @@ module _ (h : Head) (rows : List Movement) (cs : List ℕ) where
   unfolding writtenOf layoutOf
   written-reads c =
       let w = c .writable in
-      record {
+      gives-reads july july-lawful
+      (record {
         line = refl;
         valid = (w .valid, tt);
         ok = rw (one-records july2004 s) (w .ok);
         layout = rw (one-records july2004 s) (plain-file (recordsOf july2004 s));
         few = rw (one-records july2004 s) (w .few);
-      }
+      })
 
   -- and as exactly these values
   pub carried-read : Carried h rows cs → ReadAs h rows cs
@@ -102,15 +97,19 @@ module _ {f : Form} {b : List ℕ} {ss : List Statement} (r : Reads july f b ss)
   pub read-carried : Carried (headFrom t) (rowsOf (t .movements)) cs
   read-carried = record { whole = texts-counted (t .key) (t .movements) held; writable = rw statement-back writable }
 
-  -- THE ROUND TRIP: head, rows and complements read of statement j, from 0, are written as its records
-  pub read-written : writtenOf (headFrom t) (rowsOf (t .movements)) cs ≡ recordsIn f (partOf july f b (j + 1))
+  -- THE ROUND TRIP: head, rows and complements read of statement j, from 0, are written as its records, each as it is written
+  pub read-written : writtenOf (headFrom t) (rowsOf (t .movements)) cs ≡ recordsIn f (canonical july f (partOf july f b (j + 1)))
   unfolding writtenOf recordsIn
   read-written =
+      let rs = allRecords july2004 (t ∷ []) in
+      let p : pieces july f (canonical july f (partOf july f b (j + 1))) ≡ piecesFor july f rs =
+      pieces-canonical july july-lawful f (partOf july f b (j + 1)) ∙ reads-pieces july july-lawful alone in
       ap (λ s. text (recordsOf july2004 s)) statement-back
-      ∙ sym (ap (λ ps. flat (map (take recordSize) ps)) (whole-pieces ∙ ap (piecesFor july f) (one-records july2004 t)) ∙ ap flat (cut-again f (recordsOf july2004 t) (writable .ok)))
-    where
-      whole-pieces : piecesOf recordSize f (partOf july f b (j + 1)) ≡ piecesFor july f (allRecords july2004 (t ∷ []))
-      whole-pieces = rw (zero-mul (widthOf recordSize f)) at (pieces-from alone 0)
+      ∙ sym (ap (λ ps. flat (map (take recordSize) ps)) p ∙ ap flat (bodies-pieces july f july-lawful rs (alone .ok) ∙ ap (map encodeRecord) (one-records july2004 t)))
+
+  -- without a debit zero they are the same records
+  pub own-written : noDebitZero (pieces july f (partOf july f b (j + 1))) ≡ true → writtenOf (headFrom t) (rowsOf (t .movements)) cs ≡ recordsIn f (partOf july f b (j + 1))
+  own-written h = read-written ∙ ap (recordsIn f) (records.own-file f (partOf july f b (j + 1)) .1 h)
 
 module _ (h : Head) (rows : List Movement) (cs : List ℕ) where
   -- 19 EXACTLY: no accepted file reads as these values

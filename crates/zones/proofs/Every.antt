@@ -1,5 +1,5 @@
 -- A test of every byte: the loop's step, and what it says of parts and of classes.
-use mathlib.Core.Path.{_≡_, refl, ap₂, sym}
+use mathlib.Core.Path.{_≡_, refl, ap, ap₂, sym, _∙_}
 use mathlib.Core.Bool.{Bool, true, _&&_}
 use mathlib.Core.List.{List, [], _∷_, _++_}
 use Prim.Native.Nat.{ℕ, zero, suc, _+_, _<_, _≤_}
@@ -27,6 +27,12 @@ module _ (p : ℕ → Bool) where
   unfolding every
   every-append [] b g h = h
   every-append (x ∷ a) b g h = both (and-left (p x) _ g) (every-append a b (and-right (p x) _ g) h)
+
+  -- two parts pass exactly if each does
+  pub every-both : (a b : List ℕ) → every p (a ++ b) ≡ (every p a && every p b)
+  unfolding every
+  every-both [] b = refl
+  every-both (x ∷ a) b = ap (λ t. p x && t) (every-both a b) ∙ sym (and-assoc (p x) (every p a) (every p b))
 
   pub every-take : (n : ℕ) (s : List ℕ) → every p s ≡ true → every p (take n s) ≡ true
   unfolding every

@@ -3,7 +3,7 @@ use mathlib.Core.Bool.{true, false}
 use Prim.Native.Nat.{_<_}
 use native.Mathlib.Omega.{arith}
 use mir.Facts.{toZ-ofZ}
-use borrow.Author.Tests.{not-true, not-false}
+use borrow.Author.Tests.{not-true, not-false, lt-ltb, le-ltb}
 use Rattle.zones.proofs.Called.{number-below}
 use Rattle.amounts.proofs.Reading.{read-short, read-undigit, read-whole}
 use borrow.Author.Needs.{needs, sfits-of}
@@ -70,7 +70,7 @@ returns-3 c =
     record {
       answer =
           rw (toZ-ofZ (sfits-of (c .signed .ok)), c .signed .ensures)
-          (read-whole _ _ _ (d .before .before .if1 .left) (d .digits .ensures) (not-false _ (c .before .before .before .before .before .before .if2 .left)) (c .before .before .before .before .sign-index .ensures) (c .before .before .number .ensures) true (c .before .if3 .taken));
+          (read-whole _ _ _ (d .before .before .if1 .left) (d .digits .ensures) (not-false _ (c .before .before .before .before .before .before .if2 .left)) (c .before .before .before .before .sign-index .ensures) (c .before .before .number .ensures) true (lt-ltb _ _ (c .before .if3 .taken)));
     }
 
 returns-4 : tie.Need-returns-4
@@ -78,7 +78,7 @@ returns-4 c =
     let d = c .before .before .before .before .before .before in
     record {
       answer =
-          read-whole _ _ _ (d .before .before .if1 .left) (d .digits .ensures) (not-false _ (c .before .before .before .before .before .if2 .left)) (c .before .before .before .sign-index .ensures) (c .before .number .ensures) false (c .if3 .left);
+          read-whole _ _ _ (d .before .before .if1 .left) (d .digits .ensures) (not-false _ (c .before .before .before .before .before .if2 .left)) (c .before .before .before .sign-index .ensures) (c .before .number .ensures) false (le-ltb _ _ (c .if3 .left));
     }
 
 pub read-spec : {M : Type 1} → statement M
