@@ -1,34 +1,20 @@
--- Debit zeros: how one is found, in a record and among those of a body, and how a record that may have one is copied and compared.
-use mathlib.Core.Path.{_≡_, refl, sym, ap, _∙_}
-use mathlib.Core.Bool.{Bool, true, false, not, _&&_, and-false}
+-- Debit zeros: how one is found among the records of a body, and how a record that may have one is copied and compared.
+use mathlib.Core.Path.{_≡_, sym, _∙_}
+use mathlib.Core.Bool.{Bool, true, false, not, _&&_}
 use mathlib.Core.List.{List}
 use Prim.Native.Nat.{ℕ, _+_, _-_, _*_, _<_, _≤_}
 use native.Mathlib.Omega.{arith}
-use lib.ListN.{length, drop, getD, set}
-use lib.Seq.{getD-take, getD-drop}
+use lib.ListN.{length, drop, set}
 use borrow.Author.Tests.{not-true}
 use Rattle.zones.specs.Copy.{sameBytes}
 use Rattle.zones.proofs.Bools.{and-left, and-right}
 use Rattle.zones.proofs.Copies.{same-equal, equal-same}
 use Rattle.framing.specs.Files.{chunks}
-use Rattle.amounts.specs.Amounts.{debitZero}
-use Rattle.layouts.specs.Zone.{part}
-use Rattle.records.specs.July.{recordSize, isCode, hasDebitZero, noDebitZero}
+use Rattle.records.specs.July.{recordSize, hasDebitZero, noDebitZero}
 use Rattle.records.proofs.Canon.{own-record, canon-set}
 use Rattle.readers.proofs.Walk.{chunk}
 use Rattle.bodies.specs.Bodies.{kept, sameRecord}
 use Rattle.bodies.proofs.Compared.{recordIn, record-of-piece}
-
--- an amount with another last digit is none
-pub other-digit : (r : List ℕ) → (getD r 103 0 ≡ 125 → ⊥) → false ≡ hasDebitZero r
-other-digit r n = by (sameBytes (part 91 104 r) debitZero) refl
-  where
-    there : part 91 104 r ≡ debitZero → getD r 103 0 ≡ 125
-    there e = sym (getD-take 14 (drop 90 r) 13 0 (omega arith) ∙ getD-drop 90 r 13 0) ∙ ap (λ (l : List ℕ). getD l 13 0) e
-
-    by : (t : Bool) → sameBytes (part 91 104 r) debitZero ≡ t → false ≡ (not (isCode "05" r) && t)
-    by true e = absurd (n (there (same-equal (part 91 104 r) debitZero e)))
-    by false e = sym (and-false (not (isCode "05" r)))
 
 -- the records of a body, so many from a place on
 module _ (b : List ℕ) (whole : Bool) where

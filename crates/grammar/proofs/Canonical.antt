@@ -158,3 +158,15 @@ module _ (C : Coding) (L : Lawful C) (f : Form) where
         each : (ps : List (List ℕ)) → Wide (widthOf (C .size) f) ps → map (canonPiece C) ps ≡ ps → All (λ p. C .canon (take (C .size) p) ≡ take (C .size) p) ps
         each [] w g = tt
         each (p ∷ ps) w g = (sym (kept p (w .0) .body) ∙ ap (take (C .size)) (cc), each ps (w .1) (cc))
+
+  -- once written, a file is its own canonical form
+  pub canonical-once : (b : List ℕ) → canonical C f (canonical C f b) ≡ canonical C f b
+  unfolding widthOf
+  canonical-once b = own-of (canonical C f b) (rw (pieces-canonical b) (each (pieces C f b) (wide-all b)))
+    where
+      each : (ps : List (List ℕ)) → Wide (widthOf (C .size) f) ps → All (λ p. C .canon (take (C .size) p) ≡ take (C .size) p) (map (canonPiece C) ps)
+      each [] w = tt
+      each (p ∷ ps) w =
+          let l : length (take (C .size) p) ≡ C .size = length-take-le (C .size) p (omega (arith, w .0)) in
+          let k = kept p (w .0) .body in
+          (ap (C .canon) k ∙ (L .once (take (C .size) p) l ∙ sym k), each ps (w .1))

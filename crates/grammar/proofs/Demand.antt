@@ -1,5 +1,5 @@
 -- The check meets demand 2. A check that refuses every file does not, and neither does one that answers all files alike.
-use mathlib.Core.Path.{_≡_, refl, sym}
+use mathlib.Core.Path.{_≡_, refl, sym, _∙_}
 use mathlib.Core.List.{List, []}
 use Prim.Native.Nat.{ℕ, _*_}
 use native.Mathlib.Nat.{zero-div}
@@ -9,12 +9,12 @@ use Rattle.zones.specs.Pieces.{flat}
 use Rattle.framing.specs.declared.Form.{Form}
 use Rattle.framing.specs.Files.{widthOf, countOf, chunks, fileOf}
 use Rattle.grammar.specs.Answer.{Counts, Answer, accepted}
-use Rattle.grammar.specs.Statements.{allRecords, countsOf}
-use Rattle.grammar.specs.Files.{Coding, Lawful, canonical, layoutOf, Gives, checkOf}
+use Rattle.grammar.specs.Statements.{Statement, allRecords, countsOf}
+use Rattle.grammar.specs.Files.{Coding, Lawful, canonical, layoutOf, Gives, Reads, checkOf}
 use Rattle.grammar.specs.Demand.{Demand2}
 use Rattle.grammar.proofs.Tests.{clash}
-use Rattle.grammar.proofs.Canonical.{check-canonical}
-use Rattle.grammar.proofs.Exact.{counts, gives-reads, exact-own}
+use Rattle.grammar.proofs.Canonical.{check-canonical, canonical-once}
+use Rattle.grammar.proofs.Exact.{counts, reads-canonical, gives-reads, written-given, exact-own}
 
 -- the check meets demand 2
 pub demand2 : {C : Coding} → Lawful C → Demand2 C (checkOf C)
@@ -24,6 +24,16 @@ demand2 {C} L =
       only = λ f b c o e. exact-own C L f b o .0 (c, e);
       alike = λ f b. sym (check-canonical C L f b);
     }
+
+-- Whatever meets it accepts exactly the files that read as some list of statements, with the counts of that list.
+module _ {C : Coding} (L : Lawful C) (check : Form → List ℕ → Answer) (d : Demand2 C check) where
+  pub accepted-reads : (f : Form) (b : List ℕ) (ss : List Statement) → Reads C f b ss → check f b ≡ accepted (countsOf ss)
+  accepted-reads f b ss r = d .alike f b ∙ d .accepts f (canonical C f b) ss (written-given C L r)
+
+  pub only-reads : (f : Form) (b : List ℕ) (c : Counts) → check f b ≡ accepted c → (ss : List Statement) × Reads C f b ss
+  only-reads f b c e =
+      let g = d .only f (canonical C f b) c (canonical-once C L f b) (sym (d .alike f b) ∙ e) in
+      (g .0, reads-canonical C L .1 (gives-reads C L (g .1)))
 
 -- the form with line end n
 abbrev form : ℕ → Form

@@ -181,10 +181,6 @@ module _ (C : Coding) (L : Lawful C) where
     (λ r. rw (sym (statements-canonical C L f b) ∙ reads-same r) at (reads f b (sym (check-canonical C L f b) ∙ counts r))),
   )
 
-  -- and the one is accepted exactly if the other is
-  pub accepted-canonical : (f : Form) (b : List ℕ) (c : Counts) → (checkOf C f b ≡ accepted c) ↔ (checkOf C f (canonical C f b) ≡ accepted c)
-  accepted-canonical f b c = ((λ e. check-canonical C L f b ∙ e), (λ e. sym (check-canonical C L f b) ∙ e))
-
   -- what some statements give reads as them
   pub gives-reads : {f : Form} {b : List ℕ} {ss : List Statement} → Gives C f b ss → Reads C f b ss
   gives-reads {f} g = rw (← g .layout) (layout-reads (g .line) (g .valid) (g .ok) (g .few))

@@ -50,6 +50,7 @@ pub record Lawful (C : Coding) : Type 0 where
   pub some : 0 < C .size
   pub ok : (b : List ℕ) → length b ≡ C .size → Fine C b → C .Ok (C .decode b)
   pub alike : (b : List ℕ) → length b ≡ C .size → Alike C (C .canon b) b
+  pub once : (b : List ℕ) → length b ≡ C .size → C .canon (C .canon b) ≡ C .canon b
   pub again : (b : List ℕ) → length b ≡ C .size → Fine C b → C .encode (C .decode b) ≡ C .canon b
   pub wide : (r : Rec) → C .Ok r → length (C .encode r) ≡ C .size
   pub fine : (r : Rec) → C .Ok r → Fine C (C .encode r)

@@ -1,12 +1,12 @@
 -- A record as it is written: where it differs from what stood, and that no rule and no value tells the two apart.
 use mathlib.Core.Path.{_≡_, refl, ap, sym, _∙_}
-use mathlib.Core.Bool.{Bool, true, false, not, _&&_, _||_, false≢true}
+use mathlib.Core.Bool.{Bool, true, false, not, _&&_, _||_, and-false, false≢true}
 use mathlib.Core.List.{List, [], _∷_, _++_, append-nil, append-assoc}
 use Prim.Native.Nat.{ℕ, _+_, _-_, _≤_}
 use native.Mathlib.Omega.{arith}
 use lib.Dec.{eqb}
 use lib.ListN.{length, take, drop, getD, set, length-drop, take-append-drop}
-use lib.Seq.{length-take-le, take-all, take-take, take-add, set-split, take-append-le, drop-append-le, drop-at, drop-drop}
+use lib.Seq.{length-take-le, take-all, take-take, take-add, set-split, take-append-le, drop-append-le, drop-at, drop-drop, getD-take, getD-drop, getD-set-same}
 use lib.IntN.{ℤ}
 use borrow.Author.Tests.{not-true}
 use Rattle.zones.specs.Choice.{pick}
@@ -191,3 +191,25 @@ module _ (b : List ℕ) (l : length b ≡ recordSize) where
           let m : take 103 b ≡ take 90 b ++ take 13 debitZero = take-add 90 13 b ∙ ap (λ y. take 90 b ++ y) k in
           canon-place
           ∙ rw (n, z, zero-written, set-split b 103 123 (omega arith), m) (sym (append-assoc (take 90 b) (take 13 debitZero) (123 ∷ drop 104 b)))
+
+-- an amount with another last digit is none
+pub other-digit : (r : List ℕ) → (getD r 103 0 ≡ 125 → ⊥) → false ≡ hasDebitZero r
+other-digit r n = by (sameBytes (part 91 104 r) debitZero) refl
+  where
+    there : part 91 104 r ≡ debitZero → getD r 103 0 ≡ 125
+    there e = sym (getD-take 14 (drop 90 r) 13 0 (omega arith) ∙ getD-drop 90 r 13 0) ∙ ap (λ (l : List ℕ). getD l 13 0) e
+
+    by : (t : Bool) → sameBytes (part 91 104 r) debitZero ≡ t → false ≡ (not (isCode "05" r) && t)
+    by true e = absurd (n (there (same-equal (part 91 104 r) debitZero e)))
+    by false e = sym (and-false (not (isCode "05" r)))
+
+-- what is written is written as it stands, whatever the bytes
+pub once : (b : List ℕ) → length b ≡ recordSize → canonRecord (canonRecord b) ≡ canonRecord b
+once b l = by (hasDebitZero b) refl
+  where
+    by : (t : Bool) → hasDebitZero b ≡ t → canonRecord (canonRecord b) ≡ canonRecord b
+    by false e = ap canonRecord (own-record b l e)
+    by true e =
+        let c : canonRecord b ≡ set b 103 123 = canon-set b l ∙ rw e in
+        let n : getD (canonRecord b) 103 0 ≡ 123 = ap (λ (x : List ℕ). getD x 103 0) c ∙ getD-set-same b 103 123 0 (omega arith) in
+        own-record (canonRecord b) (alike b l .sized ∙ l) (sym (other-digit (canonRecord b) (λ m. omega (arith, n, m))))

@@ -19,7 +19,7 @@ use Rattle.records.specs.July.{recordSize, isCode, layout05Of, layoutOf,
 use Rattle.records.proofs.Covered.{covers01, covers04, covers07}
 use Rattle.records.proofs.Coded.{As, as01, as04, as05, as07, Coded, is01, is04, is05, is07, coded}
 use Rattle.records.proofs.Valued.{Judged, judged, fine, written-length, written-judged, written-marks, written-permitted}
-use Rattle.records.proofs.Canon.{balanceIn, movementIn, canon05, alike}
+use Rattle.records.proofs.Canon.{balanceIn, movementIn, canon05, alike, once}
 use Rattle.records.proofs.Complements.{complement-again, placed, complement-permitted}
 
 -- BYTES TO VALUES
@@ -127,6 +127,7 @@ july-lawful =
       some = omega arith;
       ok = ok;
       alike = alike;
+      once = once;
       again = again;
       wide = wide;
       fine = written-fine;

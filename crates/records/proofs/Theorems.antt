@@ -63,6 +63,15 @@ refuses-every-file = D.refuses-every-file july
 pub alike-for-all : (a : Answer) → Demand2 july (λ f b. a) → ⊥
 alike-for-all = D.alike-for-all july
 
+-- whatever meets it accepts exactly the files that read as some list of statements, with the counts of that list
+pub accepted-reads : (check : Form → List ℕ → Answer) → Demand2 july check → (f : Form) (b : List ℕ) (ss : List Statement)
+    → Reads july f b ss → check f b ≡ accepted (countsOf ss)
+accepted-reads = D.accepted-reads july-lawful
+
+pub only-reads : (check : Form → List ℕ → Answer) → Demand2 july check → (f : Form) (b : List ℕ) (c : Counts)
+    → check f b ≡ accepted c → (ss : List Statement) × Reads july f b ss
+only-reads = D.only-reads july-lawful
+
 -- a file and the file with each record as it is written have the same answer, refusals included, and the same statements
 pub check-canonical : (f : Form) (b : List ℕ) → checkOf july f (canonical july f b) ≡ checkOf july f b
 check-canonical = N.check-canonical july july-lawful

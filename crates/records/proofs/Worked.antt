@@ -1,5 +1,5 @@
 -- The worked files, by computation from the definitions.
-use mathlib.Core.Path.{_≡_, refl, ap, _∙_}
+use mathlib.Core.Path.{_≡_, refl, ap}
 use mathlib.Core.Bool.{false}
 use mathlib.Core.List.{List, map}
 use Prim.Native.Nat.{ℕ}
@@ -17,13 +17,11 @@ use Rattle.grammar.specs.Answer.{Counts, Answer, accepted, refused}
 use Rattle.grammar.specs.Record.{sameKey}
 use Rattle.grammar.specs.Machine.{judgeOf, scan}
 use Rattle.grammar.specs.Rules.{outOfPlace, differs, misdated, unsummed, secondMmo, tooLong}
-use Rattle.grammar.specs.Files.{pieces, canonical, checkOf}
+use Rattle.grammar.specs.Files.{pieces, checkOf}
 use Rattle.grammar.specs.Demand.{Demand2}
-use Rattle.grammar.proofs.Exact.{written-given}
 use Rattle.records.specs.July.{unknownCode, isMmo, layoutOf, misfit, undated, decodeRecord, writeMovement, repeats, canonRecord, noDebitZero, july}
 use Rattle.records.specs.Worked.{nil, counts, cases, written, answers, expected}
-use Rattle.records.proofs.Lawful.{july-lawful}
-use Rattle.records.proofs.Theorems.{reads}
+use Rattle.records.proofs.Theorems.{reads, accepted-reads}
 
 pub worked : answers cases ≡ expected cases
 unfolding every sameBytes valueFrom digitsInto signIndex signOf isDebit magnitude amountOf signedText yearOf daysIn exists dayOf dateOf dateText endOf widthOf chunks sameKey judgeOf scan outOfPlace differs misdated unsummed secondMmo tooLong checkOf unknownCode isMmo layoutOf misfit undated decodeRecord writeMovement repeats
@@ -43,8 +41,7 @@ pub refuses-debit-zero : (check : Form → List ℕ → Answer)
     → ((f : Form) (b : List ℕ) (c : Counts) → noDebitZero (pieces july f b) ≡ false → check f b ≡ accepted c → ⊥) → Demand2 july check → ⊥
 refuses-debit-zero check refuses d =
     let f : Form = record { «line_end» = 1 } in
-    let r = reads f nil nil-accepted in
-    refuses f nil _ nil-debit (d .alike f nil ∙ d .accepts f (canonical july f nil) _ (written-given july july-lawful r))
+    refuses f nil _ nil-debit (accepted-reads check d f nil _ (reads f nil nil-accepted))
 
 pub worked-written : map {A = String × String} {B = List ℕ} (λ p. canonRecord (bytes (p .0))) written ≡ map (λ p. bytes (p .1)) written
 unfolding canonRecord layoutOf isMmo sameBytes asWritten

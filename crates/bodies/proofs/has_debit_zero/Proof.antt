@@ -1,7 +1,7 @@
 use mathlib.Core.Path.{ap}
 use mathlib.Core.Bool.{not}
 use Rattle.zones.proofs.Bools.{conj}
-use Rattle.bodies.proofs.Zeros.{other-digit}
+use Rattle.records.proofs.Canon.{other-digit}
 use borrow.Author.Needs.{needs}
 use Rattle.bodies.proofs.has_debit_zero.Statement.{statement}
 use Rattle.bodies.proofs.has_debit_zero.Tie as tie
