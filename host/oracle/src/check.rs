@@ -317,7 +317,7 @@ fn rule_15_length(open: &Open) -> Result<(), u32> {
     require(open.records < MOST_RECORDS_IN_STATEMENT, 15)
 }
 
-/// The value of a signed amount of 14 bytes, or nothing if it is none. A debit zero is none.
+/// The value of a signed amount of 14 bytes, or nothing if it is none. A zero may have either sign.
 pub fn amount(zone: &[u8]) -> Option<i128> {
     let (&sign, thirteen) = zone.split_last()?;
     let (last, debit) = match sign {
@@ -330,12 +330,8 @@ pub fn amount(zone: &[u8]) -> Option<i128> {
     if !digits(thirteen) {
         return None;
     }
-    let value = 10 * number(thirteen) + u64::from(last);
-    match (debit, value) {
-        (true, 0) => None,
-        (true, _) => Some(-i128::from(value)),
-        (false, _) => Some(i128::from(value)),
-    }
+    let value = i128::from(10 * number(thirteen) + u64::from(last));
+    Some(if debit { -value } else { value })
 }
 
 /// A date of six digits DDMMYY as the number YYYYMMDD, or nothing if the day does not exist.

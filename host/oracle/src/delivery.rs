@@ -105,7 +105,7 @@ fn judge(journal: &[u8], line_end: u64, file: &[u8]) -> Result<Judged, Refusal> 
     let statements = statements(line_end, file)?;
     let line_length = RECORD + line_end as usize;
     for statement in &statements {
-        let new = without_line_ends(statement, file, line_length);
+        let new = to_be_held(statement, file, line_length);
         if is_held(&judged.after, &new) {
             judged.held += 1;
             continue;
@@ -118,8 +118,8 @@ fn judge(journal: &[u8], line_end: u64, file: &[u8]) -> Result<Judged, Refusal> 
     Ok(judged)
 }
 
-/// A statement of an accepted file as the journal would hold it.
-fn without_line_ends(statement: &Statement, file: &[u8], line_length: usize) -> Held {
+/// A statement of an accepted file as the journal would hold it, without line ends.
+fn to_be_held(statement: &Statement, file: &[u8], line_length: usize) -> Held {
     let place = statement.place;
     let part = &file[place.first..place.first + place.length];
     let records: Vec<&[u8]> = part
@@ -129,7 +129,7 @@ fn without_line_ends(statement: &Statement, file: &[u8], line_length: usize) -> 
     Held::read(&records.concat()).expect("a statement of an accepted file is accepted alone")
 }
 
-/// Whether one of the list has identical records.
+/// Whether one of the list has identical records, as they are stored.
 fn is_held(list: &[Held], new: &Held) -> bool {
     list.iter().any(|held| held.records == new.records)
 }

@@ -2,7 +2,8 @@
 //!
 //! The sound test goes the long way round: it reads the list of statements out of the table and
 //! the body lines, lays that list out again and compares all bytes. What `lay_out` gives is the
-//! one place that says how a journal looks.
+//! one place that says how a journal looks. A statement is laid out as it is stored, so a body
+//! with a debit zero, which the check accepts, is not what is laid out.
 
 use crate::check::{number, zone, RECORD};
 use crate::read::{statements, Place, Refusal};
@@ -15,10 +16,14 @@ pub const ENTRY: usize = 60;
 pub const TABLE: usize = ENTRIES * ENTRY;
 const MOST_LINES: usize = 100_000;
 
+/// The two writings of a zero.
+const CREDIT_ZERO: &[u8; 14] = b"0000000000000{";
+const DEBIT_ZERO: &[u8; 14] = b"0000000000000}";
+
 pub const NOT_SOUND: u32 = 21;
 pub const NO_ENTRY: u32 = 25;
 
-/// A statement as a journal holds it: its records without line ends, and what they say.
+/// A statement as a journal holds it: its records as they are stored, and what they say.
 #[derive(Clone, Debug, PartialEq, Eq)]
 pub struct Held {
     pub records: Vec<u8>,
@@ -31,7 +36,8 @@ pub struct Held {
 }
 
 impl Held {
-    /// Reads records without line ends. Nothing unless they are accepted as just one statement.
+    /// Reads records without line ends, as a file or a journal has them. Nothing unless they are
+    /// accepted as just one statement.
     pub fn read(records: &[u8]) -> Option<Held> {
         let statements = statements(0, records).ok()?;
         let head = match &statements[..] {
@@ -39,7 +45,7 @@ impl Held {
             _ => return None,
         };
         Some(Held {
-            records: records.to_vec(),
+            records: as_stored(records),
             key: key_bytes(records),
             old_date: head.old_date,
             old_balance: head.old_balance,
@@ -57,6 +63,19 @@ impl Held {
     pub fn lines(&self) -> usize {
         self.records.len() / RECORD
     }
+}
+
+/// The records as the writer would write them: in the amount of an 01, 04 or 07 a zero is a credit.
+/// Other zones stay, whatever their bytes look like.
+pub fn as_stored(records: &[u8]) -> Vec<u8> {
+    let mut stored = records.to_vec();
+    for record in stored.chunks_exact_mut(RECORD) {
+        let has_amount = matches!(zone(record, 1, 2), b"01" | b"04" | b"07");
+        if has_amount && zone(record, 91, 104) == DEBIT_ZERO {
+            record[90..104].copy_from_slice(CREDIT_ZERO);
+        }
+    }
+    stored
 }
 
 /// The key of an 01, in the order of an entry.
@@ -202,7 +221,7 @@ fn number_of_records(entry: &[u8]) -> Option<usize> {
     right.then(|| number(digits) as usize)
 }
 
-/// Whether no two have identical records.
+/// Whether no two have identical records, as they are stored.
 fn all_different(list: &[Held]) -> bool {
     list.iter().enumerate().all(|(index, statement)| {
         let earlier = &list[..index];

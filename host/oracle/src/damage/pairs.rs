@@ -44,7 +44,7 @@ fn add_at_movement(list: &mut Vec<Recipe>) {
     recipe(list, "pair-04", "04-8-amount-and-9", |rng, draft| {
         let index = find(rng, draft, "04")?;
         put(&mut draft.lines[index], rng.pick(&[35, 43]), no_date(rng));
-        put(&mut draft.lines[index], 91, b"0000000000000}");
+        put(&mut draft.lines[index], 91, b"00000000000000");
         Some(Claim::Refused(8, index + 1))
     });
     recipe(list, "pair-04", "04-9-and-10", |rng, draft| {

@@ -200,7 +200,6 @@ fn add_reject(list: &mut Vec<Recipe>) {
 /// Amounts that are none, in each record that has one.
 fn add_amounts(list: &mut Vec<Recipe>) {
     let wrong = [
-        ("debit-zero", "0000000000000}"),
         ("bad-sign", "0000000012345S"),
         ("digit-for-sign", "00000000001235"),
         ("blank-for-sign", "0000000000123 "),

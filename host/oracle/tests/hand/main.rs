@@ -10,6 +10,7 @@ mod delivery;
 mod journal;
 mod listing;
 mod newest;
+mod nil;
 #[path = "../outcomes/mod.rs"]
 mod outcomes;
 mod readers;

@@ -36,8 +36,10 @@ fn a3_zones_before_dates() {
     assert_eq!(no_date.answer(), refused(9, 2));
     assert_eq!(no_date.clone().set(2, 81, b"X").answer(), refused(8, 2));
     assert_eq!(no_date.clone().set(2, 21, b"X").answer(), refused(8, 2));
+    assert_eq!(no_date.clone().set(2, 104, b"5").answer(), refused(8, 2));
+    // A debit zero is an amount.
     let sheet = no_date.set(2, 91, b"0000000000000}");
-    assert_eq!(sheet.answer(), refused(8, 2));
+    assert_eq!(sheet.answer(), refused(9, 2));
     assert_eq!(worked().set(2, 35, b"3A0225").answer(), refused(8, 2));
     assert_eq!(worked().set(2, 43, b" 10225").answer(), refused(8, 2));
 }
@@ -396,9 +398,10 @@ fn b2_and_b3_reject_reason() {
 
 #[test]
 fn b4_debit_zero() {
-    for record in [1, 2, 4] {
+    // Read as 0, so that the sum is wrong.
+    for record in [1, 2, 3, 4] {
         let sheet = worked().set(record, 91, b"0000000000000}");
-        assert_eq!(sheet.answer(), refused(8, record as u64));
+        assert_eq!(sheet.answer(), refused(13, 4));
     }
     // -10 is right: 100000 + 25050 - 10 = 125040.
     let sheet = worked().set(3, 91, b"0000000000001}");
@@ -406,12 +409,14 @@ fn b4_debit_zero() {
         sheet.set(4, 91, b"0000000012504{").answer(),
         accepted(1, 2, 0)
     );
-    // A credit zero is right everywhere.
-    let zero = empty_statement().set(1, 91, b"0000000000000{");
-    assert_eq!(
-        zero.set(2, 91, b"0000000000000{").answer(),
-        accepted(1, 0, 0)
-    );
+    // A zero is right everywhere, with either sign.
+    let zeros = [b"0000000000000{", b"0000000000000}"];
+    for old in zeros {
+        for new in zeros {
+            let sheet = empty_statement().set(1, 91, old).set(2, 91, new);
+            assert_eq!(sheet.answer(), accepted(1, 0, 0));
+        }
+    }
 }
 
 #[test]

@@ -8,7 +8,7 @@ fn amounts() {
     assert_eq!(amount(b"0000000010000{"), Some(100_000));
     assert_eq!(amount(b"0000000000421P"), Some(-4_217));
     assert_eq!(amount(b"0000000000000{"), Some(0));
-    assert_eq!(amount(b"0000000000000}"), None);
+    assert_eq!(amount(b"0000000000000}"), Some(0));
     assert_eq!(amount(b"9999999999999R"), Some(-99_999_999_999_999));
     assert_eq!(amount(b"00000000000005"), None);
 }
@@ -32,11 +32,9 @@ fn all_sign_characters() {
 
 #[test]
 fn bad_amounts_are_refusal_8() {
-    assert_eq!(
-        worked().set(2, 91, b"0000000000000}").answer(),
-        refused(8, 2)
-    );
     assert_eq!(worked().set(2, 104, b"5").answer(), refused(8, 2));
+    assert_eq!(worked().set(2, 104, b"~").answer(), refused(8, 2));
+    assert_eq!(worked().set(2, 91, b"}").answer(), refused(8, 2));
 }
 
 #[test]
