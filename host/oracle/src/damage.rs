@@ -5,6 +5,7 @@ mod bytes;
 mod form;
 mod giant;
 mod lines;
+mod nil;
 mod pairs;
 mod places;
 mod random;
@@ -23,6 +24,7 @@ pub fn recipes() -> Vec<Recipe> {
     places::add(&mut list);
     zones::add(&mut list);
     values::add(&mut list);
+    nil::add(&mut list);
     pairs::add(&mut list);
     random::add(&mut list);
     list

@@ -8,6 +8,10 @@ pub const DAYS: u64 = 36_525;
 /// The largest amount of 14 digits.
 pub const MOST: i64 = 99_999_999_999_999;
 
+/// A zero as the writer writes it, and as some banks do.
+pub const CREDIT_ZERO: &[u8] = b"0000000000000{";
+pub const DEBIT_ZERO: &[u8] = b"0000000000000}";
+
 const CREDIT: &[u8; 10] = b"{ABCDEFGHI";
 const DEBIT: &[u8; 10] = b"}JKLMNOPQR";
 const MONTHS: [u64; 12] = [31, 28, 31, 30, 31, 30, 31, 31, 30, 31, 30, 31];
@@ -30,6 +34,12 @@ pub fn code(line: &[u8]) -> &[u8] {
 /// Whether this is a 05 with the qualifier MMO.
 pub fn is_mmo(line: &[u8]) -> bool {
     code(line) == b"05" && get(line, 46, 48) == b"MMO"
+}
+
+/// Whether this record has an amount and that is a zero, with either sign.
+pub fn is_nil(line: &[u8]) -> bool {
+    let has_amount = matches!(code(line), b"01" | b"04" | b"07");
+    has_amount && [CREDIT_ZERO, DEBIT_ZERO].contains(&get(line, 91, 104))
 }
 
 /// The line end of a file with this line-end number.

@@ -25,6 +25,7 @@ use crate::case_file::{put_bytes, Cases};
 use crate::check::RECORD;
 use crate::damage::{recipes, Recipe};
 use crate::hostile;
+use crate::journal::as_stored;
 use crate::read::{statements, Refusal};
 use crate::rng::Rng;
 use crate::valid::few_records;
@@ -261,7 +262,7 @@ fn put_writing(out: &mut Vec<u8>, values: &Values, bytes: usize) -> u32 {
     number
 }
 
-/// Line end, file, k, number of rows, head, complements, the statement's records.
+/// Line end, file, k, number of rows, head, complements, the records that are written.
 fn put_trip(out: &mut Vec<u8>, line_end: u64, file: &[u8], k: u64) {
     let list = statements(line_end, file).expect("a valid file");
     let statement = &list[k as usize - 1];
@@ -275,7 +276,7 @@ fn put_trip(out: &mut Vec<u8>, line_end: u64, file: &[u8], k: u64) {
     put_count(out, values.rows.len());
     put_head(out, &values.head);
     put_bytes(out, &values.complements);
-    put_bytes(out, &records.concat());
+    put_bytes(out, &as_stored(&records.concat()));
 }
 
 /// Refusal, record and the number answered. Gives the refusal.

@@ -1,6 +1,8 @@
 //! Seeded generators of valid files.
 
-use crate::record::{line_end, put, write_amount, write_date, DAYS, MOST, RECORD};
+use crate::record::{
+    line_end, put, write_amount, write_date, CREDIT_ZERO, DAYS, DEBIT_ZERO, MOST, RECORD,
+};
 use crate::rng::Rng;
 
 /// A file as lines, each a record with its line end, so that damages can take hold of it.
@@ -155,7 +157,7 @@ pub fn statement_of(
 ) -> Statement {
     let mut draft = Draft {
         line_end: 0,
-        lines: vec![balance(b"01", key, old)],
+        lines: vec![balance(rng, b"01", key, old)],
     };
     let mut new = Balance {
         day: new_day,
@@ -165,7 +167,7 @@ pub fn statement_of(
         new.value += value;
         add_movement(rng, &mut draft, key, (old.day, new_day), value, complements);
     }
-    draft.lines.push(balance(b"07", key, new));
+    draft.lines.push(balance(rng, b"07", key, new));
     Statement {
         key: key.clone(),
         old,
@@ -245,7 +247,7 @@ fn add_period(
         day: new_day,
         value: old.value,
     };
-    draft.lines.push(draft.line(&balance(b"01", key, old)));
+    draft.lines.push(draft.line(&balance(rng, b"01", key, old)));
     let mut left = size - 2;
     while left > 0 {
         let complements = complement_count(rng, left - 1);
@@ -254,7 +256,7 @@ fn add_period(
         new.value += value;
         add_movement(rng, draft, key, (old.day, new_day), value, complements);
     }
-    draft.lines.push(draft.line(&balance(b"07", key, new)));
+    draft.lines.push(draft.line(&balance(rng, b"07", key, new)));
     new
 }
 
@@ -348,10 +350,23 @@ fn add_complements(rng: &mut Rng, draft: &mut Draft, movement: &[u8], count: usi
 }
 
 /// An 01 or 07.
-fn balance(code: &[u8], key: &Key, at: Balance) -> Vec<u8> {
+fn balance(rng: &mut Rng, code: &[u8], key: &Key, at: Balance) -> Vec<u8> {
     let mut record = blank_record(code, key, at.day);
-    put(&mut record, 91, &write_amount(at.value));
+    put(&mut record, 91, &amount_zone(rng, at.value));
     record
+}
+
+/// An amount as a bank may write it: a zero has either sign.
+fn amount_zone(rng: &mut Rng, value: i64) -> Vec<u8> {
+    match value {
+        0 => zero(rng).to_vec(),
+        _ => write_amount(value),
+    }
+}
+
+/// A zero with either sign.
+pub fn zero(rng: &mut Rng) -> &'static [u8] {
+    rng.pick(&[CREDIT_ZERO, DEBIT_ZERO])
 }
 
 /// A 04 with its free zones filled at will.
@@ -363,11 +378,11 @@ fn movement(rng: &mut Rng, key: &Key, day: u64, value: i64) -> Vec<u8> {
         put(&mut record, 41, &digits(rng, 2));
     }
     put(&mut record, 43, &write_date(value_day(rng, day)));
-    put(&mut record, 49, &text(rng, 31));
+    put(&mut record, 49, &text_with_zeros(rng, 31));
     put(&mut record, 82, &digits(rng, 7));
     put(&mut record, 89, &[rng.pick(b"01 "), rng.pick(b"01 ")]);
-    put(&mut record, 91, &write_amount(value));
-    put(&mut record, 105, &text(rng, 16));
+    put(&mut record, 91, &amount_zone(rng, value));
+    put(&mut record, 105, &text_with_zeros(rng, 16));
     record
 }
 
@@ -391,8 +406,13 @@ pub fn complement(rng: &mut Rng, movement: &[u8]) -> Vec<u8> {
     if qualifier == b"MMO" {
         qualifier = b"MMP".to_vec();
     }
-    let information = text(rng, 70);
-    complement_of(movement, &qualifier, &information)
+    let information = text_with_zeros(rng, 70);
+    let mut record = complement_of(movement, &qualifier, &information);
+    if rng.one_in(6) {
+        // Where other records have their amount.
+        put(&mut record, 91, zero(rng));
+    }
+    record
 }
 
 /// An MMO of this movement.
@@ -435,6 +455,16 @@ fn letters(rng: &mut Rng, length: usize) -> Vec<u8> {
 fn letters_or_digits(rng: &mut Rng, length: usize) -> Vec<u8> {
     let all = b"ABCDEFGHIJKLMNOPQRSTUVWXYZ0123456789";
     (0..length).map(|_| rng.pick(all)).collect()
+}
+
+/// A text in which a zero may stand, which is no amount there.
+fn text_with_zeros(rng: &mut Rng, length: usize) -> Vec<u8> {
+    let mut text = text(rng, length);
+    if rng.one_in(6) {
+        let zero = zero(rng);
+        put(&mut text, 1 + rng.index(length - zero.len() + 1), zero);
+    }
+    text
 }
 
 /// Blanks, capitals and digits with blanks between, or any permitted bytes.

@@ -1,11 +1,15 @@
 //! The generators and the check against each other.
 
+mod zeros;
+
 use oracle::check::{amount, check, date, Answer};
 use oracle::damage::{giants, recipes, Recipe};
+use oracle::hostile::random_file;
 use oracle::record::{read_amount, read_date, write_amount, write_date, DAYS};
 use oracle::rng::Rng;
 use oracle::valid::{amount as any_amount, file, small_file};
 use oracle::write::{damaged_case, valid_case};
+use zeros::signed;
 
 #[test]
 fn valid_files_are_accepted() {
@@ -83,6 +87,34 @@ fn damaged_files_show_every_refusal() {
         println!("refusal {number}: {count}");
         assert!(*count > 0, "refusal {number} does not occur");
     }
+}
+
+/// Whatever the bytes: the answer is that of the file with the other zeros.
+#[test]
+fn either_zero_gets_the_same_answer() {
+    let mut rng = Rng::new(7);
+    let list = recipes();
+    let (mut accepted, mut refused) = (0, 0);
+    for number in 0..20_000 {
+        let case = match number % 8 {
+            0 | 4 => valid_case(&mut rng),
+            7 => random_file(&mut rng),
+            _ => damaged_case(&mut rng, &list),
+        };
+        if case.line_end > 2 {
+            continue;
+        }
+        let answer = check(case.line_end, &case.bytes);
+        let [credits, debits] = [b'{', b'}'].map(|sign| signed(case.line_end, &case.bytes, sign));
+        assert_eq!(check(case.line_end, &credits), answer, "{}", case.name);
+        assert_eq!(check(case.line_end, &debits), answer, "{}", case.name);
+        match answer {
+            _ if credits == debits => {}
+            Answer::Accepted { .. } => accepted += 1,
+            Answer::Refused { .. } => refused += 1,
+        }
+    }
+    assert!(accepted > 4_000 && refused > 4_000, "{accepted} {refused}");
 }
 
 #[test]

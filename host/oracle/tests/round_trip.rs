@@ -1,6 +1,7 @@
 //! Values, the records this test writes from them with its own code, and the values read back.
 
 mod outcomes;
+mod zeros;
 
 use oracle::check::{check, Answer};
 use oracle::damage::{giants, recipes};
@@ -14,6 +15,7 @@ use oracle::rng::Rng;
 use oracle::valid::small_file;
 use oracle::write::{damaged_case, valid_case};
 use outcomes::outcomes;
+use zeros::signed;
 
 const MOST: i128 = 99_999_999_999_999;
 
@@ -30,14 +32,33 @@ fn values_are_read_back() {
     }
 }
 
-/// The other generator's files are the same after reading and writing.
+/// The other generator's files are the same after reading and writing, but that zeros are credits.
 #[test]
 fn files_are_written_back() {
     let mut rng = Rng::new(12);
+    let mut changed = 0;
     for _ in 0..3_000 {
         let case = valid_case(&mut rng);
         let read = statements(case.line_end, &case.bytes).unwrap();
-        assert_eq!(write(&read, case.line_end), case.bytes);
+        let written = write(&read, case.line_end);
+        assert_eq!(written, signed(case.line_end, &case.bytes, b'{'));
+        changed += u64::from(written != case.bytes);
+    }
+    assert!((1_000..2_000).contains(&changed), "{changed}");
+}
+
+/// All fields of a file are the same with either zero.
+#[test]
+fn either_zero_reads_alike() {
+    let mut rng = Rng::new(16);
+    for _ in 0..2_000 {
+        let draft = small_file(&mut rng);
+        let file = draft.bytes();
+        let read = statements(draft.line_end, &file).unwrap();
+        for sign in [b'{', b'}'] {
+            let other = signed(draft.line_end, &file, sign);
+            assert_eq!(statements(draft.line_end, &other).unwrap(), read);
+        }
     }
 }
 

@@ -1,7 +1,9 @@
 //! Generated series against simple statements of what a journal holds and answers.
 //!
 //! The statements of a file or of body lines are cut here by this test's own code: a statement
-//! ends with its 07.
+//! ends with its 07. Those of a file are taken as a journal stores them, with credits for zeros.
+
+mod zeros;
 
 use std::collections::BTreeSet;
 
@@ -10,6 +12,7 @@ use oracle::journal::{body, entry, is_sound, open};
 use oracle::read::{Place, Refusal};
 use oracle::series::{operations, perform, run, Operation};
 use oracle::series_cases::{large_cases, scenes, series_case, KEPT_JOURNAL, KEPT_SERIES, KINDS};
+use zeros::signed;
 
 const TABLE: usize = 7_680;
 const SEED: u64 = 21;
@@ -33,7 +36,8 @@ fn cut<'a>(lines: impl Iterator<Item = &'a [u8]>) -> Vec<Records> {
 }
 
 fn in_file(line_end: u64, file: &[u8]) -> Vec<Records> {
-    cut(file.chunks(120 + line_end as usize))
+    let stored = signed(line_end, file, b'{');
+    cut(stored.chunks(120 + line_end as usize))
 }
 
 /// The statements in the body lines up to the first blank one.
@@ -51,11 +55,12 @@ fn key_of(records: &[u8]) -> Vec<u8> {
     [&records[2..7], &records[11..20], &records[21..32]].concat()
 }
 
-/// A file of these statements with another line end.
-fn relined(statements: &[Records], line_end: u64) -> Vec<u8> {
+/// A file of these statements with another line end and this sign for zeros.
+fn rewritten(statements: &[Records], line_end: u64, sign: u8) -> Vec<u8> {
     let end: &[u8] = [&b""[..], b"\n", b"\r\n"][line_end as usize];
     let records = statements.iter().flat_map(|records| records.chunks(120));
-    records.flat_map(|record| [record, end].concat()).collect()
+    let file: Vec<u8> = records.flat_map(|record| [record, end].concat()).collect();
+    signed(line_end, &file, sign)
 }
 
 /// What is watched while a series runs.
@@ -218,15 +223,15 @@ fn assert_holds(journal: &[u8], list: &[Records]) {
     assert_eq!(entry(journal, 0), none);
 }
 
-/// What was delivered is held, with each of the line ends.
+/// What was delivered is held, with each of the line ends and either zero.
 fn assert_retries(journal: &[u8], sent: &[Records]) {
-    for line_end in 0..3 {
+    for (line_end, sign) in [(0, b'{'), (1, b'}'), (2, b'{'), (0, b'}')] {
         let mut copy = journal.to_vec();
         let held = Delivered {
             stored: 0,
             held: sent.len() as u64,
         };
-        let answer = deliver(&mut copy, line_end, &relined(sent, line_end));
+        let answer = deliver(&mut copy, line_end, &rewritten(sent, line_end, sign));
         assert_eq!(answer, Ok(held));
         assert!(copy == journal);
     }

@@ -7,7 +7,7 @@ use super::values::{
     add_to_amount, change, earlier_day, insert_complements, movement_without_mmo, no_date, rebook,
     KEY,
 };
-use crate::record::{code, get, put, read_date, write_date, DAYS, RECORD};
+use crate::record::{code, get, put, read_date, write_date, DAYS, DEBIT_ZERO, RECORD};
 use crate::rng::Rng;
 use crate::valid::Draft;
 
@@ -18,6 +18,7 @@ pub fn add(list: &mut Vec<Recipe>) {
     add_form_first(list);
     add_earlier_record_first(list);
     add_before_end_of_file(list);
+    add_beside_a_debit_zero(list);
 }
 
 /// Makes the key of a line differ in one zone.
@@ -337,6 +338,57 @@ fn add_before_end_of_file(list: &mut Vec<Recipe>) {
         add_to_amount(draft, index, 1)?;
         Some(Claim::Refused(14, index + 1))
     });
+}
+
+/// A debit zero is an amount: what is wrong beside it is found.
+fn add_beside_a_debit_zero(list: &mut Vec<Recipe>) {
+    for kind in ["01", "04", "07"] {
+        let name = format!("{kind}-debit-zero-and-8");
+        recipe(list, "pair-zero", name, move |rng, draft| {
+            let index = debit_zero(rng, draft, kind)?;
+            put(&mut draft.lines[index], 21, b"X");
+            Some(Claim::Refused(8, index + 1))
+        });
+        let name = format!("{kind}-debit-zero-and-9");
+        recipe(list, "pair-zero", name, move |rng, draft| {
+            let index = debit_zero(rng, draft, kind)?;
+            put(&mut draft.lines[index], 35, no_date(rng));
+            Some(Claim::Refused(9, index + 1))
+        });
+    }
+    for kind in ["04", "07"] {
+        let name = format!("{kind}-debit-zero-and-10");
+        recipe(list, "pair-zero", name, move |rng, draft| {
+            let index = debit_zero(rng, draft, kind)?;
+            change_key(rng, &mut draft.lines[index]);
+            Some(Claim::Refused(10, index + 1))
+        });
+        let name = format!("{kind}-debit-zero-and-12");
+        recipe(list, "pair-zero", name, move |rng, draft| {
+            let index = debit_zero(rng, draft, kind)?;
+            let day = day_before_old(rng, draft, index)?;
+            put(&mut draft.lines[index], 35, &write_date(day));
+            Some(Claim::Refused(12, index + 1))
+        });
+    }
+    recipe(list, "pair-zero", "debit-zero-and-7", |rng, draft| {
+        let index = debit_zero(rng, draft, "01")?;
+        draft.lines.insert(index + 1, draft.lines[index].clone());
+        Some(Claim::Refused(7, index + 2))
+    });
+    recipe(list, "pair-zero", "debit-zero-and-14", |rng, draft| {
+        let kind = rng.pick(&["01", "04"]);
+        let index = debit_zero(rng, draft, kind)?;
+        draft.lines.truncate(index + 1);
+        Some(Claim::Refused(14, index + 1))
+    });
+}
+
+/// Puts a debit zero into a line of that kind; gives its index.
+fn debit_zero(rng: &mut Rng, draft: &mut Draft, kind: &str) -> Option<usize> {
+    let index = find(rng, draft, kind)?;
+    put(&mut draft.lines[index], 91, DEBIT_ZERO);
+    Some(index)
 }
 
 /// Cuts the file inside a statement; gives the last line left.

@@ -2,7 +2,7 @@
 
 use super::lines::find_where;
 use super::recipe::{add as recipe, pick, Claim, Recipe};
-use super::{places, values, zones};
+use super::{nil, places, values, zones};
 use crate::record::{code, RECORD};
 use crate::rng::Rng;
 use crate::valid::{small_file, Draft};
@@ -132,6 +132,7 @@ fn add_two_recipes(list: &mut Vec<Recipe>) {
     let mut singles = Vec::new();
     zones::add(&mut singles);
     values::add(&mut singles);
+    nil::add(&mut singles);
     places::add(&mut singles);
     recipe(list, "random-two", "two-damages", move |rng, draft| {
         let first = pick(rng, &singles);

@@ -4,7 +4,8 @@ use super::bytes::other_byte;
 use super::lines::{find, find_where, movement_end, statement_of};
 use super::recipe::{add as recipe, Claim, Recipe};
 use crate::record::{
-    code, get, is_mmo, put, read_amount, read_date, write_amount, write_date, DAYS, MOST,
+    code, get, is_mmo, is_nil, put, read_amount, read_date, write_amount, write_date, DAYS,
+    DEBIT_ZERO, MOST,
 };
 use crate::rng::Rng;
 use crate::valid::{amount, complement, mmo_complement, Draft};
@@ -239,6 +240,11 @@ fn add_mmo(list: &mut Vec<Recipe>) {
         put(&mut draft.lines[index], 53, &write_amount(amount(rng)));
         Some(Claim::Refused(8, index + 1))
     });
+    recipe(list, "mmo", "mmo-debit-zero", |rng, draft| {
+        let index = find(rng, draft, "MMO")?;
+        put(&mut draft.lines[index], 53, DEBIT_ZERO);
+        Some(Claim::Refused(8, index + 1))
+    });
     recipe(list, "mmo", "mmo-lower-case-qualifier", |rng, draft| {
         let index = find(rng, draft, "MMO")?;
         put(&mut draft.lines[index], 46, b"mmo");
@@ -422,7 +428,7 @@ fn add_sums(list: &mut Vec<Recipe>) {
         let index = find(rng, draft, "04")?;
         let (_, last) = statement_of(draft, index)?;
         let end = movement_end(draft, index);
-        let zero = get(&draft.lines[index], 91, 104) == b"0000000000000{";
+        let zero = is_nil(&draft.lines[index]);
         draft.lines.drain(index..end);
         match zero {
             true => Some(Claim::Accepted),
@@ -433,7 +439,7 @@ fn add_sums(list: &mut Vec<Recipe>) {
         let index = find(rng, draft, "04")?;
         let (_, last) = statement_of(draft, index)?;
         let end = movement_end(draft, index);
-        let zero = get(&draft.lines[index], 91, 104) == b"0000000000000{";
+        let zero = is_nil(&draft.lines[index]);
         let movement = draft.lines[index..end].to_vec();
         draft.lines.splice(end..end, movement);
         match zero {

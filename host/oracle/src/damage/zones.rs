@@ -208,6 +208,8 @@ fn add_amounts(list: &mut Vec<Recipe>) {
         ("leading-blanks", "          123{"),
         ("sign-in-front", "-000000000123{"),
         ("two-signs", "000000000012{{"),
+        ("two-debit-signs", "000000000000}}"),
+        ("debit-sign-behind-a-blank", "000000000000 }"),
         ("decimal-point", "0000000001.23{"),
         ("all-blank", "              "),
     ];

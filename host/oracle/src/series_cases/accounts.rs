@@ -1,7 +1,7 @@
 //! Accounts whose statements follow one another, and files of such statements.
 
 use crate::damage::other_byte;
-use crate::record::{line_end, put};
+use crate::record::{is_nil, line_end, put};
 use crate::rng::Rng;
 use crate::valid::{amount, key, statement, statement_of, Balance, Key, Statement};
 
@@ -145,6 +145,15 @@ pub fn relabelled(rng: &mut Rng, statement: &Statement) -> Statement {
         let position = 49 + rng.index(31);
         let byte = other_byte(rng, line[position - 1]);
         put(line, position, &[byte]);
+    }
+    other
+}
+
+/// The same statement with all its zeros written this way.
+pub fn with_zeros(statement: &Statement, zero: &[u8]) -> Statement {
+    let mut other = statement.clone();
+    for line in other.records.iter_mut().filter(|line| is_nil(line)) {
+        put(line, 91, zero);
     }
     other
 }

@@ -2,10 +2,10 @@
 //!
 //! The journals are laid out here a second time, on purpose: nothing of `journal` is called.
 
-use super::accounts::{apart, relabelled, twin, Account, Zone};
+use super::accounts::{apart, relabelled, twin, with_zeros, Account, Zone};
 use super::script::TABLE;
 use crate::damage::other_byte;
-use crate::record::{put, write_amount, write_date, RECORD};
+use crate::record::{put, write_amount, write_date, CREDIT_ZERO, RECORD};
 use crate::rng::Rng;
 use crate::valid::{Balance, Key, Statement};
 
@@ -128,11 +128,8 @@ fn lay_out(list: &[Statement], lines: usize) -> Vec<u8> {
         let line = first_line(list, index);
         let entry = entry(statement, line);
         put(&mut journal, at(index, 1) + 1, &entry);
-        put(
-            &mut journal,
-            TABLE + RECORD * line + 1,
-            &statement.records.concat(),
-        );
+        let records = with_zeros(statement, CREDIT_ZERO).records.concat();
+        put(&mut journal, TABLE + RECORD * line + 1, &records);
     }
     journal
 }

@@ -1,5 +1,7 @@
 //! Amounts of nothing, written with either sign: points N1 to N10, answers derived by hand.
 
+use std::slice::from_ref;
+
 use crate::asked::{asked, UNTOUCHED};
 use crate::common::{
     accepted, balance, complement, long_statement, movement, refused, with_complements, worked,
@@ -81,7 +83,7 @@ fn february_of(records: usize) -> String {
 /// A journal of 12 lines that holds one statement of February.
 fn holding(sheet: &Sheet) -> Vec<u8> {
     let entry = february_of(sheet.0.len());
-    journal(12, &[&entry], &[sheet.clone()])
+    journal(12, &[&entry], from_ref(sheet))
 }
 
 #[test]
@@ -290,7 +292,7 @@ fn n4_in_two_files() {
 #[test]
 fn n4_line_ends_aside() {
     let mut journal = blank(4);
-    let sent = |sheet: &Sheet, line_end| file(&[sheet.clone()], line_end);
+    let sent = |sheet: &Sheet, line_end| file(from_ref(sheet), line_end);
     let [debits, credits] = [DEBIT, CREDIT].map(|zero| nothing([zero; 4]));
     assert_eq!(deliver(&mut journal, 2, &sent(&debits, 2)), stored(1, 0));
     assert_eq!(deliver(&mut journal, 0, &sent(&credits, 0)), stored(0, 1));
@@ -304,7 +306,7 @@ fn n4_held_before_all_refusals() {
     let full = journal(2, &[&february_of(2)], &[quiet(CREDIT, CREDIT)]);
     assert_eq!(delivered(&full, &[quiet(DEBIT, CREDIT)]).0, stored(0, 1));
     let next = quiet_march(DEBIT, DEBIT);
-    assert_eq!(delivered(&full, &[next.clone()]).0, refusal(24, 1));
+    assert_eq!(delivered(&full, from_ref(&next)).0, refusal(24, 1));
     // No longer the last of its account.
     let (_, later) = delivered(&blank(4), &[quiet(DEBIT, DEBIT), next]);
     assert_eq!(delivered(&later, &[quiet(CREDIT, DEBIT)]).0, stored(0, 1));
@@ -331,7 +333,7 @@ fn n5_same_balance_by_value() {
         for old in ZEROS {
             let (_, before) = delivered(&blank(12), &[there_and_back(DEBIT, new)]);
             let next = quiet_march(old, old);
-            assert_eq!(delivered(&before, &[next.clone()]).0, stored(1, 0));
+            assert_eq!(delivered(&before, from_ref(&next)).0, stored(1, 0));
             let both = [there_and_back(CREDIT, new), next];
             assert_eq!(delivered(&blank(12), &both).0, stored(2, 0));
             assert_eq!(delivered(&before, &both).0, stored(1, 1));

@@ -1,0 +1,16 @@
+//! Files with all their zeros written one way, for the tests that compare what they say.
+
+/// The file with this sign in each amount of nothing. Only an 01, 04 or 07 has an amount.
+pub fn signed(line_end: u64, file: &[u8], sign: u8) -> Vec<u8> {
+    let mut bytes = file.to_vec();
+    for line in bytes.chunks_mut(120 + line_end as usize) {
+        let codes = [&b"01"[..], b"04", b"07"];
+        let has_amount = codes.iter().any(|code| line.starts_with(code));
+        let nil = line.get(90..103) == Some(b"0000000000000");
+        match line.get_mut(103) {
+            Some(last) if has_amount && nil && b"{}".contains(last) => *last = sign,
+            _ => {}
+        }
+    }
+    bytes
+}
