@@ -10,6 +10,7 @@ mod deliveries;
 mod large;
 mod limits;
 mod mixed;
+mod nil;
 mod refusals;
 mod scenes;
 mod script;
@@ -32,7 +33,7 @@ pub const KEPT_SERIES: usize = 131_072;
 /// Nor are the journals in them longer than this.
 pub const KEPT_JOURNAL: usize = 65_536;
 /// The kinds, which come in turn.
-pub const KINDS: [(&str, Make); 31] = [
+pub const KINDS: [(&str, Make); 35] = [
     ("retries-with-other-line-ends", deliveries::retries),
     ("statement-in-two-files", deliveries::two_files),
     ("partial-overlaps", deliveries::overlaps),
@@ -64,6 +65,10 @@ pub const KINDS: [(&str, Make); 31] = [
     ("damaged-with-nul-and-ff", damaged::strange_bytes),
     ("damaged-at-random", mixed::random_damages),
     ("mixed", mixed::mixed),
+    ("nil-in-either-writing", nil::either_writing),
+    ("nil-follows-nil", nil::follows),
+    ("zeros-in-texts", nil::texts),
+    ("damaged-by-debit-zeros", damaged::debit_zeros),
 ];
 
 /// The series of that seed and index.

@@ -7,7 +7,7 @@ use crate::cash::MOST_DAYS;
 use crate::damage::other_byte;
 use crate::hostile::{random_bytes, FAR_OUT};
 use crate::journal::{ENTRIES, TABLE};
-use crate::record::{date_number, DAYS, RECORD};
+use crate::record::{date_number, is_nil, DAYS, RECORD};
 use crate::rng::Rng;
 use crate::series_cases::accounts::{apart, Account, ZONES};
 use crate::valid::{key, Key, Statement};
@@ -81,9 +81,11 @@ fn some_statements(rng: &mut Rng, mut accounts: Vec<Account>, centre: u64) -> Ve
     let statement = |_| {
         let index = rng.index(accounts.len());
         let account = &mut accounts[index];
-        let next = match rng.below(6) {
+        let next = match rng.below(8) {
             0 => account.next_quiet(rng),
             1 => account.next_of(rng, 20),
+            2 => account.next_to_nil(rng),
+            3 if account.last.value == 0 => account.next_at_nil(rng),
             _ => account.next(rng),
         };
         revalued(rng, next, centre)
@@ -93,6 +95,12 @@ fn some_statements(rng: &mut Rng, mut accounts: Vec<Account>, centre: u64) -> Ve
 
 /// Changes a byte or the length. Says what was done; the journal may still be sound.
 fn damage(rng: &mut Rng, journal: &mut Vec<u8>) -> &'static str {
+    if rng.one_in(4) {
+        if let Some(sign) = sign_of_a_zero(rng, journal) {
+            journal[sign] = b'}';
+            return "a-debit-zero";
+        }
+    }
     match rng.below(8) {
         0 => {
             journal.pop();
@@ -126,6 +134,14 @@ fn damage(rng: &mut Rng, journal: &mut Vec<u8>) -> &'static str {
             "a-byte-changed"
         }
     }
+}
+
+/// Where the sign of an amount of nothing stands, if there is one.
+fn sign_of_a_zero(rng: &mut Rng, journal: &[u8]) -> Option<usize> {
+    let lines = journal[TABLE..].chunks_exact(RECORD).enumerate();
+    let nil = lines.filter(|(_, line)| is_nil(line));
+    let signs: Vec<usize> = nil.map(|(line, _)| TABLE + RECORD * line + 103).collect();
+    (!signs.is_empty()).then(|| rng.pick(&signs))
 }
 
 /// Each fault beside each other one.

@@ -57,7 +57,7 @@ pub fn revalued(rng: &mut Rng, mut statement: Statement, centre: u64) -> Stateme
     statement
 }
 
-/// A journal that holds these statements, with so many lines to spare.
+/// A journal that holds these statements, as they are stored, with so many lines to spare.
 pub fn journal_of(statements: &[Statement], spare_lines: usize) -> Vec<u8> {
     let held = |one: &Statement| Held::read(&one.records.concat()).expect("a valid statement");
     let list: Vec<Held> = statements.iter().map(held).collect();

@@ -4,9 +4,10 @@ use super::questions::{Book, Question, Span};
 use super::spans::no_days;
 use super::statements::{journal_of, on, statement, worked_key, Movement};
 use crate::cash::MOST_DAYS;
-use crate::record::{date_number, write_date, DAYS};
+use crate::journal::TABLE;
+use crate::record::{date_number, write_date, DAYS, DEBIT_ZERO, RECORD};
 use crate::rng::Rng;
-use crate::series_cases::accounts::{apart, twin, ZONES};
+use crate::series_cases::accounts::{apart, twin, with_zeros, ZONES};
 use crate::valid::{Balance, Statement};
 
 /// A day of the worked statement's movements.
@@ -23,6 +24,11 @@ pub fn vectors(rng: &mut Rng) -> Vec<Book> {
         before_the_first_old_date(rng),
         before_the_old_date(rng),
         last_new_balance(rng),
+        at_nil(rng, None),
+        at_nil(rng, Some(0)),
+        at_nil(rng, Some(2)),
+        at_nil(rng, Some(4)),
+        at_nil(rng, Some(5)),
         numbers(rng),
         whole_calendar(rng),
         days(),
@@ -207,6 +213,33 @@ fn last_new_balance(rng: &mut Rng) -> Book {
     book.position("P13-last-new-balance", &key, (20_250_301, 20_250_331), 31);
     book.position("P13-last-new-balance", &key, (20_791_231, 20_791_231), 1);
     book.add("P13-balances", Question::Balances((0..=4).collect()));
+    book
+}
+
+/// N7, N10: statements that came with debit zeros; and the same with such a zero put into the journal,
+/// into a record that counts from 0.
+fn at_nil(rng: &mut Rng, debit_zero: Option<usize>) -> Book {
+    let movements = [
+        valued(7, "050225"),
+        valued(0, "060225"),
+        valued(-7, "070225"),
+    ];
+    let february = worked(rng, ("310125", 0), "280225", &movements);
+    let march = worked(rng, ("280225", 0), "310325", &[]);
+    let statements = [february, march].map(|one| with_zeros(&one, DEBIT_ZERO));
+    let mut book = Book::new(journal_of(&statements, 1));
+    let name = match debit_zero {
+        None => "N10-at-nil".to_string(),
+        Some(record) => {
+            book.journal[TABLE + RECORD * record + 103] = b'}';
+            format!("N7-debit-zero-in-record-{}", record + 1)
+        }
+    };
+    let key = worked_key().bytes();
+    book.position(&name, &key, (20_250_204, 20_250_208), 5);
+    book.position(&name, &key, (20_250_331, 20_250_401), 3);
+    book.faults_at_once(&name, [&key, &[b'0'; 25]], [(DAY, DAY + 1), (DAY + 1, DAY)]);
+    book.add(&name, Question::Balances((0..=3).collect()));
     book
 }
 

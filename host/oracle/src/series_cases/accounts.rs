@@ -3,7 +3,7 @@
 use crate::damage::other_byte;
 use crate::record::{is_nil, line_end, put};
 use crate::rng::Rng;
-use crate::valid::{amount, key, statement, statement_of, Balance, Key, Statement};
+use crate::valid::{amount, key, statement, statement_of, zero, Balance, Key, Statement};
 
 /// The zones of a key that two accounts may differ in.
 #[derive(Clone, Copy, Debug)]
@@ -45,6 +45,13 @@ impl Account {
         Account { key, last }
     }
 
+    /// With nothing on it.
+    pub fn at_nil(rng: &mut Rng) -> Account {
+        let mut account = Account::new(rng);
+        account.last.value = 0;
+        account
+    }
+
     /// The next statement, of 2 to 8 records.
     pub fn next(&mut self, rng: &mut Rng) -> Statement {
         let records = 2 + rng.index(7);
@@ -60,17 +67,31 @@ impl Account {
 
     /// The next statement, with one 04 and one 05: four records.
     pub fn next_plain(&mut self, rng: &mut Rng) -> Statement {
-        let day = self.later_day(rng);
         let value = toward_zero(self.last.value, 1 + rng.below(5_000) as i64);
-        let next = statement_of(rng, &self.key, self.last, day, &[(value, 1)]);
-        self.move_on(next)
+        self.next_with(rng, &[(value, 1)])
     }
 
     /// The next statement, without movements: two records.
     pub fn next_quiet(&mut self, rng: &mut Rng) -> Statement {
-        let day = self.later_day(rng);
-        let next = statement_of(rng, &self.key, self.last, day, &[]);
-        self.move_on(next)
+        self.next_with(rng, &[])
+    }
+
+    /// The next statement, by which the balance becomes nothing.
+    pub fn next_to_nil(&mut self, rng: &mut Rng) -> Statement {
+        let rest = -self.last.value;
+        self.next_with(rng, &[(0, 0), (rest, 1)])
+    }
+
+    /// The next statement of an account at nil, which stays there.
+    pub fn next_at_nil(&mut self, rng: &mut Rng) -> Statement {
+        let amount = 1 + rng.below(5_000) as i64;
+        let movements = match rng.below(4) {
+            0 => vec![],
+            1 => vec![(0, 1)],
+            2 => vec![(amount, 0), (-amount, 1)],
+            _ => vec![(0, 0), (-amount, 2), (0, 1), (amount, 0)],
+        };
+        self.next_with(rng, &movements)
     }
 
     /// A statement that ends as it begins, on the same day; so does any other of its kind.
@@ -87,6 +108,13 @@ impl Account {
         let mut other = self.clone();
         other.last = from;
         other.next(rng)
+    }
+
+    /// The next statement, with these amounts, each with a number of complements.
+    fn next_with(&mut self, rng: &mut Rng, movements: &[(i64, usize)]) -> Statement {
+        let day = self.later_day(rng);
+        let next = statement_of(rng, &self.key, self.last, day, movements);
+        self.move_on(next)
     }
 
     /// At least a day later, so that no statement follows itself.
@@ -154,6 +182,15 @@ pub fn with_zeros(statement: &Statement, zero: &[u8]) -> Statement {
     let mut other = statement.clone();
     for line in other.records.iter_mut().filter(|line| is_nil(line)) {
         put(line, 91, zero);
+    }
+    other
+}
+
+/// The same statement with each of its zeros written either way.
+pub fn in_some_writing(rng: &mut Rng, statement: &Statement) -> Statement {
+    let mut other = statement.clone();
+    for line in other.records.iter_mut().filter(|line| is_nil(line)) {
+        put(line, 91, zero(rng));
     }
     other
 }

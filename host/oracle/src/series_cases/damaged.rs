@@ -42,6 +42,11 @@ pub fn strange_bytes(rng: &mut Rng, script: &mut Script) {
     play(rng, script, &scene);
 }
 
+pub fn debit_zeros(rng: &mut Rng, script: &mut Script) {
+    let scene = scenes::debit_zeros(rng);
+    play(rng, script, &scene);
+}
+
 /// Fills a journal, then each damage in turn.
 fn play(rng: &mut Rng, script: &mut Script, scene: &Scene) {
     let damaged: Vec<&[u8]> = scene

@@ -1,6 +1,6 @@
 //! Deliveries that are stored, held or do not follow.
 
-use super::accounts::{apart, relabelled, twin, Account, ZONES};
+use super::accounts::{apart, in_some_writing, relabelled, twin, Account, ZONES};
 use super::script::Script;
 use crate::rng::Rng;
 use crate::valid::{statement, Statement};
@@ -61,7 +61,8 @@ pub fn overlaps(rng: &mut Rng, script: &mut Script) {
     script.entries(&[1, sent.len() as u64, sent.len() as u64 + 1]);
 }
 
-/// Up to three statements that were sent before, with up to three new ones among them.
+/// Up to three statements that were sent before, in some writing, with up to three new ones among
+/// them.
 pub fn overlap(
     rng: &mut Rng,
     accounts: &mut [Account],
@@ -69,7 +70,8 @@ pub fn overlap(
 ) -> Vec<Statement> {
     let mut file: Vec<Statement> = Vec::new();
     for _ in 0..rng.index(4).min(sent.len()) {
-        file.push(sent[rng.index(sent.len())].clone());
+        let again = rng.index(sent.len());
+        file.push(in_some_writing(rng, &sent[again]));
     }
     // New ones keep their order; each goes somewhere behind the one before.
     let mut place = 0;

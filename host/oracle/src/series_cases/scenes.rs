@@ -5,9 +5,9 @@
 use super::accounts::{apart, relabelled, twin, with_zeros, Account, Zone};
 use super::script::TABLE;
 use crate::damage::other_byte;
-use crate::record::{put, write_amount, write_date, CREDIT_ZERO, RECORD};
+use crate::record::{is_nil, put, write_amount, write_date, CREDIT_ZERO, DEBIT_ZERO, RECORD};
 use crate::rng::Rng;
-use crate::valid::{Balance, Key, Statement};
+use crate::valid::{complement, Balance, Key, Statement};
 
 /// Bytes of an entry.
 const ENTRY: usize = 60;
@@ -24,6 +24,10 @@ const ENTRY_ZONES: [(&str, usize, usize); 10] = [
     ("records", 44, 47),
     ("blank", 48, 60),
 ];
+
+/// Where a zero stands in a text of `debit_zeros`: a record of its first statement, from 0, and a
+/// position. Label, reference, information, and there also the place of an amount.
+const ZEROS_IN_TEXTS: [(usize, usize); 5] = [(1, 49), (1, 66), (1, 105), (2, 49), (2, 91)];
 
 /// Bytes to be put at an offset, which counts from 0.
 type Edit<'a> = (usize, &'a [u8]);
@@ -58,6 +62,7 @@ pub fn scenes(seed: u64) -> Vec<Scene> {
         twice,
         one_bank,
         strange_bytes,
+        debit_zeros,
     ];
     makers.into_iter().map(|make| make(&mut rng)).collect()
 }
@@ -509,4 +514,48 @@ pub fn strange_bytes(rng: &mut Rng) -> Scene {
         scene.put(&name, false, at(3, 1), &[byte; ENTRY]);
     }
     scene
+}
+
+/// Debit zeros in the bodies, each of which the check accepts. In an amount none is sound, in a
+/// text each is.
+pub fn debit_zeros(rng: &mut Rng) -> Scene {
+    let (mut nil, mut other) = (Account::at_nil(rng), Account::new(rng));
+    other.last.value = 1 + rng.below(5_000) as i64;
+    let mut list = vec![nil.next_to_nil(rng), other.next_to_nil(rng)];
+    list.push(nil.next_quiet(rng));
+    list.push(nil.empty_period(rng, &[]));
+    // A text of a zero in each place that takes one: the journal has it with a credit.
+    let records = &mut list[0].records;
+    let complement = complement(rng, &records[1]);
+    records.insert(2, complement);
+    for (record, position) in ZEROS_IN_TEXTS {
+        put(&mut records[record], position, CREDIT_ZERO);
+    }
+    let mut scene = Scene::new(list, 3);
+    add_debit_zeros(&mut scene);
+    for (record, position) in ZEROS_IN_TEXTS {
+        let name = format!("text-{}-{position}", record + 1);
+        let offset = scene.body(0) + RECORD * record + position - 1;
+        scene.put(&name, true, offset, DEBIT_ZERO);
+    }
+    scene
+}
+
+/// In each amount of nothing by itself, in all, and in a statement that is held twice so.
+fn add_debit_zeros(scene: &mut Scene) {
+    let lines = scene.bytes[TABLE..].chunks_exact(RECORD).enumerate();
+    let nil = lines.filter(|(_, line)| is_nil(line));
+    let signs: Vec<usize> = nil.map(|(line, _)| TABLE + RECORD * line + 103).collect();
+    for &offset in &signs {
+        let name = format!("debit-zero-{}", (offset - TABLE) / RECORD + 1);
+        scene.put(&name, false, offset, b"}");
+    }
+    let all: Vec<Edit> = signs.iter().map(|&offset| (offset, &b"}"[..])).collect();
+    scene.put_all("debit-zeros", false, &all);
+    let mut twice = scene.list.clone();
+    twice.extend_from_within(3..);
+    let mut journal = lay_out(&twice, scene.lines);
+    let second = TABLE + RECORD * first_line(&twice, 4);
+    put(&mut journal, second + 104, b"}");
+    scene.add("held-twice-with-either-zero", false, journal);
 }
