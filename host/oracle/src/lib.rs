@@ -21,6 +21,7 @@ pub mod hostile_series;
 pub mod journal;
 pub mod listing;
 pub mod listing_cases;
+pub mod nil;
 pub mod read;
 pub mod record;
 pub mod recorded;

@@ -16,10 +16,10 @@ use oracle::read::{complement, head, movement, place};
 use oracle::replay::{replay_checks, replay_series};
 use oracle::samples::write_samples;
 use oracle::series;
-use oracle::series_cases::{big_series, kept_series};
+use oracle::series_cases::{big_series, kept_series, nil_series};
 use oracle::show::{complement_line, head_line, line, place_line, readings, row_line};
 use oracle::table_cases::replay_tables;
-use oracle::write::{answer_text, big, corpus, kept};
+use oracle::write::{answer_text, big, corpus, kept, nil};
 
 const USAGE: &str = "usage:
   oracle check LINE_END FILE..
@@ -32,6 +32,7 @@ const USAGE: &str = "usage:
   oracle corpus SEED COUNT OUT
   oracle kept SEED COUNT DIR
   oracle big DIR
+  oracle nil DIR
   oracle listings SEED COUNT DIR
   oracle series FILE
       runs the operations on a journal that FILE holds, prints a line for each but the pokes
@@ -40,6 +41,8 @@ const USAGE: &str = "usage:
       names, bytes and kinds on standard error
   oracle series-big DIR
       the same with the large series
+  oracle series-nil DIR
+      the same with the vectors of amounts of nothing
   oracle replay-checks SEED COUNT OUT
       fixed checks and COUNT generated ones with their answers, in one binary file
   oracle replay-series SEED COUNT OUT
@@ -78,6 +81,7 @@ fn run(arguments: &[&str]) -> io::Result<()> {
             print_lines(&kept(number(seed)?, count, Path::new(directory))?)
         }
         ["big", directory] => print_lines(&big(Path::new(directory))?),
+        ["nil", directory] => print_lines(&nil(Path::new(directory))?),
         ["samples", directory] => print_lines(&write_samples(Path::new(directory))?),
         ["listings", seed, count, directory] => {
             let count = number(count)? as usize;
@@ -96,7 +100,7 @@ fn run(arguments: &[&str]) -> io::Result<()> {
             let span = (number(first)?, number(last)?);
             print_lines(&[time_position(journal, key, span, number(times)?)?])
         }
-        ["series", ..] | ["series-kept", ..] | ["series-big", ..] => run_series(arguments),
+        ["series" | "series-kept" | "series-big" | "series-nil", ..] => run_series(arguments),
         _ => run_reader(arguments),
     }
 }
@@ -121,6 +125,7 @@ fn run_series(arguments: &[&str]) -> io::Result<()> {
             print_lines(&kept_series(number(seed)?, count, Path::new(directory))?)
         }
         ["series-big", directory] => print_lines(&big_series(Path::new(directory))?),
+        ["series-nil", directory] => print_lines(&nil_series(Path::new(directory))?),
         _ => Err(failure(USAGE)),
     }
 }

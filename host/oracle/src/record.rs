@@ -26,6 +26,18 @@ pub fn get(line: &[u8], first: usize, last: usize) -> &[u8] {
     &line[first - 1..last]
 }
 
+/// A record of bank 12345 with its code, account and date, all else blank.
+pub fn plain(code: &str, account: &str, date: &str) -> Vec<u8> {
+    let mut record = vec![b' '; RECORD];
+    put(&mut record, 1, code.as_bytes());
+    put(&mut record, 3, b"12345");
+    put(&mut record, 12, b"00010");
+    put(&mut record, 17, b"EUR2");
+    put(&mut record, 22, account.as_bytes());
+    put(&mut record, 35, date.as_bytes());
+    record
+}
+
 /// The record code.
 pub fn code(line: &[u8]) -> &[u8] {
     get(line, 1, 2)

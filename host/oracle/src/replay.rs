@@ -14,7 +14,7 @@ use crate::rng::Rng;
 use crate::series_cases::{large_cases, series_case};
 use crate::valid::{few_records, Draft};
 use crate::write::damaged_from;
-use crate::{hostile, hostile_series};
+use crate::{hostile, hostile_series, nil};
 
 /// The first bytes of the two files.
 pub const CHECKS: &[u8; 8] = b"CHCHECKS";
@@ -67,7 +67,8 @@ pub fn add_length(cases: &mut Cases, line_end: u64, length: u64) -> io::Result<(
     cases.add(&name, &body, &[answer.number])
 }
 
-/// The large files, which show refusals 3 and 15, and the hostile ones.
+/// The large files, which show refusals 3 and 15, the hostile ones, and the vectors of amounts of
+/// nothing with each line end.
 fn fixed_checks(rng: &mut Rng) -> Vec<Case> {
     let mut cases = Vec::new();
     for (number, recipe) in giants().iter().enumerate() {
@@ -79,6 +80,10 @@ fn fixed_checks(rng: &mut Rng) -> Vec<Case> {
         cases.extend(drafts.find_map(|draft| recipe.damage(rng, draft)));
     }
     cases.append(&mut hostile::checks(rng));
+    for line_end in 0..3 {
+        let vectors = nil::vectors();
+        cases.extend(vectors.iter().map(|vector| vector.case(line_end)));
+    }
     cases
 }
 
@@ -115,11 +120,11 @@ pub fn add_series(cases: &mut Cases, series: &Series) -> io::Result<()> {
     cases.add(&series.name, &series.body(), &series.numbers())
 }
 
-/// The large series and the hostile ones.
+/// The large series, the vectors of amounts of nothing, and the hostile series.
 fn fixed_series(seed: u64) -> io::Result<Vec<Series>> {
-    let large = large_cases();
-    let large = large.iter().map(|case| Series::of(case.name, &case.bytes));
-    let mut list = large.collect::<io::Result<Vec<Series>>>()?;
+    let cases = [large_cases(), nil::series()].concat();
+    let cases = cases.iter().map(|case| Series::of(case.name, &case.bytes));
+    let mut list = cases.collect::<io::Result<Vec<Series>>>()?;
     list.append(&mut hostile_series::series(&mut Rng::new(seed)));
     Ok(list)
 }

@@ -6,7 +6,7 @@ use std::io;
 use std::path::Path;
 
 use crate::check::check;
-use crate::record::{line_end, put, write_amount, RECORD};
+use crate::record::{line_end, plain, put, write_amount, RECORD};
 use crate::write::answer_text;
 
 const NONE: u64 = 0;
@@ -67,27 +67,15 @@ fn receipt(date: &'static str, amount: i64, complement: &'static str) -> Movemen
     }
 }
 
-/// What all records of a statement begin with.
-fn record(kind: &str, account: &str, date: &str) -> Vec<u8> {
-    let mut record = vec![b' '; RECORD];
-    put(&mut record, 1, kind.as_bytes());
-    put(&mut record, 3, b"12345");
-    put(&mut record, 12, b"00010");
-    put(&mut record, 17, b"EUR2");
-    put(&mut record, 22, account.as_bytes());
-    put(&mut record, 35, date.as_bytes());
-    record
-}
-
 fn balance(kind: &str, account: &str, date: &str, value: i64) -> Vec<u8> {
-    let mut record = record(kind, account, date);
+    let mut record = plain(kind, account, date);
     put(&mut record, 91, &write_amount(value));
     record
 }
 
 /// The 04 of a movement and, where it has one, its 05.
 fn movement_records(account: &str, movement: &Movement) -> Records {
-    let mut first = record("04", account, movement.date);
+    let mut first = plain("04", account, movement.date);
     put(&mut first, 33, movement.code.as_bytes());
     let mut second = first.clone();
     put(&mut first, 43, movement.date.as_bytes());

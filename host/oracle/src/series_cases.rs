@@ -5,25 +5,26 @@
 
 pub mod accounts;
 mod asking;
+mod at_nil;
 mod damaged;
 mod deliveries;
 mod large;
 mod limits;
 mod mixed;
-mod nil;
 mod refusals;
 mod scenes;
 mod script;
 
 pub use large::large_cases;
 pub use scenes::{scenes, Damage, Scene};
-pub use script::{Script, SeriesCase};
+pub use script::{Script, SeriesCase, TABLE};
 
 use std::collections::BTreeSet;
 use std::io;
 use std::path::Path;
 
 use crate::failure::failure;
+use crate::nil;
 use crate::rng::Rng;
 use crate::series::run;
 use script::Make;
@@ -65,9 +66,9 @@ pub const KINDS: [(&str, Make); 35] = [
     ("damaged-with-nul-and-ff", damaged::strange_bytes),
     ("damaged-at-random", mixed::random_damages),
     ("mixed", mixed::mixed),
-    ("nil-in-either-writing", nil::either_writing),
-    ("nil-follows-nil", nil::follows),
-    ("zeros-in-texts", nil::texts),
+    ("nil-in-either-writing", at_nil::either_writing),
+    ("nil-follows-nil", at_nil::follows),
+    ("zeros-in-texts", at_nil::texts),
     ("damaged-by-debit-zeros", damaged::debit_zeros),
 ];
 
@@ -98,6 +99,11 @@ pub fn kept_series(seed: u64, count: usize, directory: &Path) -> io::Result<Vec<
 /// Writes the large series to a directory. Gives the lines of their runs.
 pub fn big_series(directory: &Path) -> io::Result<Vec<String>> {
     write_series(directory, &large_cases())
+}
+
+/// Writes the vectors of amounts of nothing to a directory. Gives the lines of their runs.
+pub fn nil_series(directory: &Path) -> io::Result<Vec<String>> {
+    write_series(directory, &nil::series())
 }
 
 /// Names and kinds go to standard error, so that the lines are those of the runs alone.

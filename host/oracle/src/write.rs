@@ -7,6 +7,7 @@ use std::path::Path;
 
 use crate::check::{check, Answer};
 use crate::damage::{case, families, giants, pick, recipes, Case, Claim, Recipe};
+use crate::nil::vectors;
 use crate::rng::Rng;
 use crate::valid::{file, small_file, Draft};
 
@@ -194,6 +195,13 @@ pub fn big(directory: &Path) -> io::Result<Vec<String>> {
             line_end = (line_end + 1) % 3;
         }
     }
+    write_cases(directory, &cases)
+}
+
+/// Writes the vectors of amounts of nothing to a directory and lists them. The line ends take turns.
+pub fn nil(directory: &Path) -> io::Result<Vec<String>> {
+    let turns = (0..3).cycle().zip(vectors());
+    let cases: Vec<Case> = turns.map(|(end, vector)| vector.case(end)).collect();
     write_cases(directory, &cases)
 }
 

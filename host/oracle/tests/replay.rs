@@ -96,7 +96,7 @@ fn hostile_checks_get_the_answer_they_expect() {
 fn checks_are_read_back() {
     let path = path("generated.checks");
     let line = replay_checks(3, 2_000, &path).unwrap();
-    assert!(line.starts_with("checks: seed 3, 1837 fixed, 2000 generated: answered "));
+    assert!(line.starts_with("checks: seed 3, 1903 fixed, 2000 generated: answered "));
     let file = std::fs::read(&path).unwrap();
     let mut reader = Reader(&file);
     let mut refusals = BTreeSet::new();

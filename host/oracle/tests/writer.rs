@@ -341,7 +341,7 @@ fn retrip(reader: &mut Reader) {
 fn tables_are_read_back() {
     let path = path("generated.tables");
     let line = replay_tables(3, 4_000, &path).unwrap();
-    assert!(line.starts_with("tables: seed 3, 3824 fixed, 4000 generated: answered "));
+    assert!(line.starts_with("tables: seed 3, 3923 fixed, 4000 generated: answered "));
     let file = std::fs::read(&path).unwrap();
     let mut reader = Reader(&file);
     let cases = reader.cases(TABLES, 3);

@@ -10,6 +10,7 @@ use crate::valid::{Key, Statement};
 pub const TABLE: usize = 7_680;
 
 /// A series and what it tries.
+#[derive(Clone)]
 pub struct SeriesCase {
     pub name: &'static str,
     pub bytes: Vec<u8>,

@@ -1,8 +1,10 @@
 //! Fixed cases that read a table, and statements read and written again.
 
 use super::calls::{reading, Call, TableCase};
-use crate::damage::{giants, recipes};
+use crate::check::Answer;
+use crate::damage::{giants, recipes, Case};
 use crate::hostile;
+use crate::nil::vectors;
 use crate::rng::Rng;
 use crate::valid::{file, one_statement, Draft};
 use crate::write::small_damaged_case;
@@ -15,6 +17,7 @@ pub fn fixed_readings(rng: &mut Rng) -> Vec<TableCase> {
         add_refused(rng, &mut cases, line_end);
     }
     add_hostile(rng, &mut cases);
+    add_nil(&mut cases);
     add_recipes(rng, &mut cases);
     add_large(rng, &mut cases);
     cases
@@ -63,6 +66,30 @@ fn add_refused(rng: &mut Rng, cases: &mut Vec<TableCase>, line_end: u64) {
 fn add_hostile(rng: &mut Rng, cases: &mut Vec<TableCase>) {
     for case in hostile::checks(rng) {
         cases.push(reading(case.name, case.line_end, case.bytes, 1, 2));
+    }
+}
+
+/// Amounts of nothing with either zero: each file read, and where it is accepted its first statement
+/// written again.
+fn add_nil(cases: &mut Vec<TableCase>) {
+    let ends = 0..3;
+    let vectors = ends.flat_map(|end| vectors().into_iter().map(move |vector| vector.case(end)));
+    for case in vectors {
+        let Case {
+            name,
+            line_end,
+            bytes: file,
+            expected,
+        } = case;
+        cases.push(reading(name.clone(), line_end, file.clone(), 1, 2));
+        if let Some(Answer::Accepted { .. }) = expected {
+            let call = Call::Trip {
+                line_end,
+                file,
+                k: 1,
+            };
+            cases.push(TableCase { name, call });
+        }
     }
 }
 

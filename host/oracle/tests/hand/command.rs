@@ -103,9 +103,32 @@ fn series_kept_command() {
     assert_eq!(output.stdout, lines);
 }
 
+/// The vectors of amounts of nothing are numbered files, and the lines are the answers to them.
+#[test]
+fn nil_commands() {
+    let directory = PathBuf::from(env!("CARGO_TARGET_TMPDIR")).join("nil");
+    let directory = directory.to_str().unwrap();
+    let listed = oracle(&["nil", directory], b"").stdout;
+    let listed = String::from_utf8(listed).unwrap();
+    assert!(!listed.is_empty());
+    for line in listed.lines() {
+        let columns: Vec<&str> = line.split('\t').collect();
+        let path = format!("{directory}/{}", columns[0]);
+        let answer = oracle(&["check", columns[1], &path], b"").stdout;
+        assert_eq!(answer, format!("{}\n", columns[2]).as_bytes());
+    }
+    let printed = oracle(&["series-nil", directory], b"").stdout;
+    let mut lines = Vec::new();
+    for number in 1..=6 {
+        let path = format!("{directory}/{number:03}.series");
+        lines.append(&mut oracle(&["series", &path], b"").stdout);
+    }
+    assert_eq!(printed, lines);
+}
+
 #[test]
 fn mistakes_in_the_call() {
-    let calls: [&[&str]; 9] = [
+    let calls: [&[&str]; 11] = [
         &["place", "1"],
         &["place", "x", "no such file", "1"],
         &["movement", "1", "no such file", "1"],
@@ -115,6 +138,8 @@ fn mistakes_in_the_call() {
         &["series", "no such file"],
         &["series-kept", "1", "x", "no such directory"],
         &["series-big"],
+        &["nil"],
+        &["series-nil"],
     ];
     for arguments in calls {
         assert_eq!(oracle(arguments, b"").status.code(), Some(2));

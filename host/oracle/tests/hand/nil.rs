@@ -7,6 +7,7 @@ use crate::common::{
     accepted, balance, complement, long_statement, movement, refused, with_complements, worked,
     Sheet, MMO,
 };
+use crate::series::without_hash;
 use crate::shelf::{
     accounts, b, blank, delivered, file, journal, numbered_account, refusal, standstill, stored,
     with, KEY,
@@ -17,7 +18,9 @@ use oracle::contents::{listed, Listed};
 use oracle::delivery::{deliver, newest, Newest, Source};
 use oracle::journal::{as_stored, body, entry, is_sound, open, used, Used};
 use oracle::listing::listing;
+use oracle::nil::{series, vectors};
 use oracle::read::{head, movement as read_movement, place, statements, Place, Refusal};
+use oracle::series::run;
 use oracle::show::readings;
 use oracle::values::Values;
 use oracle::writer::write_statement;
@@ -550,4 +553,157 @@ fn n10_entries() {
     assert_eq!(new_balance(&journal, 1), Some(0));
     let (answer, table) = asked(&journal, KEY, (20250205, 20250207), 3);
     assert_eq!((answer, table), (Ok(3), vec![0; 3]));
+}
+
+// The vectors that go to the replay.
+
+/// Each says what it expects, with every line end.
+#[test]
+fn vectors_get_the_answer_they_expect() {
+    for vector in vectors() {
+        for line_end in 0..3 {
+            let case = vector.case(line_end);
+            let answer = check(line_end, &case.bytes);
+            assert_eq!(case.expected, Some(answer), "{}", case.name);
+        }
+    }
+}
+
+/// The lines of the series of that name, without hashes.
+fn lines(name: &str) -> Vec<String> {
+    let series = series();
+    let case = series.iter().find(|case| case.name == name).unwrap();
+    let lines = run(&case.bytes).unwrap();
+    lines.iter().map(|line| without_hash(line)).collect()
+}
+
+/// Four texts with the other sign, each twice in a file, the one that is held between them.
+#[test]
+fn lines_of_the_texts() {
+    let expected = [
+        "J 10080",
+        "O opened",
+        "D stored 1 held 0",
+        "D stored 0 held 1",
+        "D stored 1 held 2",
+        "D stored 1 held 2",
+        "D stored 1 held 2",
+        "D stored 1 held 2",
+        "S sound",
+        "E at 7680 480",
+        "E at 9600 480",
+        "E refused 25 0",
+    ];
+    assert_eq!(lines("N3-texts"), expected);
+}
+
+#[test]
+fn lines_of_one_file() {
+    let two_writings = [
+        "J 8160",
+        "O opened",
+        "D stored 1 held 1",
+        "E at 7680 240",
+        "E refused 25 0",
+    ];
+    let all_writings = [
+        "J 8160",
+        "O opened",
+        "N file 0 484 1",
+        "D stored 1 held 15",
+        "N journal 7680 480 0",
+        "E at 7680 480",
+        "E refused 25 0",
+        "S sound",
+    ];
+    let expected = [
+        &two_writings[..],
+        &two_writings,
+        &two_writings,
+        &all_writings,
+    ];
+    assert_eq!(lines("N4-in-one-file"), expected.concat());
+}
+
+#[test]
+fn lines_of_two_files() {
+    let expected = [
+        "J 8160",
+        "O opened",
+        "D stored 1 held 0",
+        "D stored 0 held 1",
+        "D stored 0 held 1",
+        "D refused 24 1",
+        "J 8160",
+        "O opened",
+        "D stored 1 held 0",
+        "D stored 0 held 1",
+        "S sound",
+    ];
+    assert_eq!(lines("N4-in-two-files"), expected);
+}
+
+#[test]
+fn lines_of_nil_after_nil() {
+    let each = [
+        "J 9120",
+        "O opened",
+        "D stored 1 held 0",
+        "D refused 22 1",
+        "D refused 22 1",
+        "D stored 1 held 0",
+        "D stored 0 held 2",
+        "S sound",
+    ];
+    let in_one_file = [
+        "J 9120",
+        "O opened",
+        "D stored 2 held 0",
+        "E at 7680 480",
+        "E at 8160 240",
+    ];
+    let expected = [&each[..], &each, &each, &in_one_file];
+    assert_eq!(lines("N5-nil-follows-nil"), expected.concat());
+}
+
+#[test]
+fn lines_of_parts() {
+    let before = [
+        "J 9120",
+        "O opened",
+        "N file 0 480 0",
+        "N file 0 484 1",
+        "N file 0 488 2",
+        "D stored 1 held 0",
+    ];
+    let held = ["N journal 7680 480 0"; 7];
+    let next = ["N file 484 242 1", "E at 7680 480"];
+    let expected = [&before[..], &held, &next];
+    assert_eq!(lines("N6-parts"), expected.concat());
+}
+
+/// In four amounts and four texts.
+#[test]
+fn lines_of_bodies() {
+    let amount = [
+        "S unsound",
+        "E refused 21 0",
+        "E refused 21 0",
+        "D refused 21 0",
+        "N refused 21 0",
+        "S sound",
+    ];
+    let text = [
+        "S sound",
+        "E at 7680 600",
+        "E refused 25 0",
+        "D stored 0 held 0",
+        "N journal 7680 600 0",
+        "S sound",
+    ];
+    let mut expected = vec!["J 8640", "O opened", "D stored 1 held 0"];
+    expected.extend(amount.repeat(4));
+    expected.extend(text.repeat(4));
+    expected.push("D stored 0 held 1");
+    assert_eq!(lines("N7-debit-zeros-in-bodies"), expected);
 }

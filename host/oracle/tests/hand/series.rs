@@ -64,7 +64,8 @@ fn a_series_and_its_lines() {
     assert_ne!(hash_of(&answers[2]), hash_of(&answers[4]));
 }
 
-fn without_hash(line: &str) -> String {
+/// A line without the hash of the journal, if it has one.
+pub fn without_hash(line: &str) -> String {
     match line.rsplit_once(' ') {
         Some((words, _)) if line.starts_with(['D', 'O']) => words.to_string(),
         _ => line.to_string(),

@@ -1,0 +1,227 @@
+//! Vectors of amounts of nothing, by the settled point that they are for: files with the answer of
+//! the check, and series on a journal. They are fixed: no seed.
+
+mod series;
+
+pub use series::series;
+
+use crate::damage::{case, Case, Claim};
+use crate::record::{plain, put};
+use crate::valid::Draft;
+
+/// The two zeros, and other amounts around nothing.
+const CREDIT: &str = "0000000000000{";
+const DEBIT: &str = "0000000000000}";
+const SEVEN: &str = "0000000000000G";
+const MINUS_SEVEN: &str = "0000000000000P";
+const MINUS_TEN: &str = "0000000000001}";
+const HUNDRED: &str = "0000000000010{";
+
+/// Old and new date of a statement.
+const FEBRUARY: [&str; 2] = ["310125", "280225"];
+const MARCH: [&str; 2] = ["280225", "310325"];
+
+/// Records without line ends.
+type Records = Vec<Vec<u8>>;
+
+/// A file and what is expected of the check.
+pub struct Vector {
+    name: &'static str,
+    claim: Claim,
+    records: Records,
+}
+
+impl Vector {
+    /// The file with this line end.
+    pub fn case(&self, line_end: u64) -> Case {
+        case(self.name, &draft(&self.records, line_end), self.claim)
+    }
+}
+
+fn draft(records: &[Vec<u8>], line_end: u64) -> Draft {
+    let mut draft = Draft {
+        line_end,
+        lines: Vec::new(),
+    };
+    draft.lines = records.iter().map(|record| draft.line(record)).collect();
+    draft
+}
+
+/// All files.
+pub fn vectors() -> Vec<Vector> {
+    let lists = [accepted(), refused(), texts(), several()];
+    let vector = |(name, claim, records)| Vector {
+        name,
+        claim,
+        records,
+    };
+    lists.into_iter().flatten().map(vector).collect()
+}
+
+type Listed = (&'static str, Claim, Records);
+
+/// N1, N9: a debit zero wherever an amount stands.
+fn accepted() -> Vec<Listed> {
+    let list = [
+        ("N1-in-01-and-07", quiet(DEBIT, DEBIT)),
+        ("N1-in-01", quiet(DEBIT, CREDIT)),
+        ("N1-in-07", quiet(CREDIT, DEBIT)),
+        ("N1-in-04", statement(FEBRUARY, HUNDRED, &[DEBIT], HUNDRED)),
+        ("N1-in-all", nothing([DEBIT; 4])),
+        (
+            "N1-movements-cancel-out",
+            statement(FEBRUARY, DEBIT, &[SEVEN, MINUS_SEVEN], DEBIT),
+        ),
+        (
+            "N1-minus-ten",
+            statement(FEBRUARY, DEBIT, &[MINUS_TEN], MINUS_TEN),
+        ),
+    ];
+    let accepted = |(name, records)| (name, Claim::Accepted, records);
+    list.into_iter().map(accepted).collect()
+}
+
+/// N1: what is wrong beside a debit zero, and what is none.
+fn refused() -> Vec<Listed> {
+    let nil = || quiet(DEBIT, DEBIT);
+    let movement = || statement(FEBRUARY, DEBIT, &[DEBIT], DEBIT);
+    let [mut doubled, mut open, mut mmo] = [nil(), nil(), movement()];
+    doubled.insert(0, doubled[0].clone());
+    open.pop();
+    mmo.insert(2, complement("MMOUSD20000000000000}"));
+    vec![
+        (
+            "N1-sum-wrong",
+            Claim::Refused(13, 3),
+            statement(FEBRUARY, DEBIT, &[SEVEN], DEBIT),
+        ),
+        (
+            "N1-from-minus-ten",
+            Claim::Refused(13, 2),
+            quiet(MINUS_TEN, DEBIT),
+        ),
+        ("N1-second-01", Claim::Refused(7, 2), doubled),
+        (
+            "N1-no-old-date",
+            Claim::Refused(9, 1),
+            with(nil(), 0, 35, b"310225"),
+        ),
+        (
+            "N1-no-value-date",
+            Claim::Refused(9, 2),
+            with(movement(), 1, 43, b"290225"),
+        ),
+        (
+            "N1-other-account",
+            Claim::Refused(10, 2),
+            with(nil(), 1, 32, b"B"),
+        ),
+        (
+            "N1-new-date-before-old",
+            Claim::Refused(12, 2),
+            with(nil(), 1, 35, b"300125"),
+        ),
+        ("N1-no-07", Claim::Refused(14, 1), open),
+        ("N1-amount-of-an-mmo", Claim::Refused(8, 3), mmo),
+        (
+            "N1-blank-before-the-sign",
+            Claim::Refused(8, 1),
+            with(nil(), 0, 103, b" "),
+        ),
+        (
+            "N1-two-signs",
+            Claim::Refused(8, 2),
+            with(nil(), 1, 103, b"}"),
+        ),
+    ]
+}
+
+/// N3: the same text in label, reference and information, there in the place of an amount.
+fn texts() -> Vec<Listed> {
+    let worth_a_hundred = statement(FEBRUARY, HUNDRED, &[CREDIT], HUNDRED);
+    vec![
+        (
+            "N3-texts",
+            Claim::Accepted,
+            with_texts(nothing([DEBIT; 4]), DEBIT),
+        ),
+        (
+            "N3-texts-alone",
+            Claim::Accepted,
+            with_texts(worth_a_hundred, DEBIT),
+        ),
+    ]
+}
+
+/// N4, N5: several statements of the account.
+fn several() -> Vec<Listed> {
+    let march = statement(MARCH, DEBIT, &[], DEBIT);
+    let both_writings = [quiet(DEBIT, DEBIT), quiet(CREDIT, CREDIT)].concat();
+    vec![
+        ("N4-in-either-writing", Claim::Accepted, both_writings),
+        (
+            "N5-nil-follows-nil",
+            Claim::Accepted,
+            [quiet(CREDIT, CREDIT), march].concat(),
+        ),
+    ]
+}
+
+/// A statement of the worked account; its movements are booked on its old date.
+fn statement(dates: [&str; 2], old: &str, amounts: &[&str], new: &str) -> Records {
+    let mut records = vec![balance("01", dates[0], old)];
+    records.extend(amounts.iter().map(|amount| movement(dates[0], amount)));
+    records.push(balance("07", dates[1], new));
+    records
+}
+
+/// February without a movement.
+fn quiet(old: &str, new: &str) -> Records {
+    statement(FEBRUARY, old, &[], new)
+}
+
+/// February with two movements of nothing.
+fn nothing([old, first, second, new]: [&str; 4]) -> Records {
+    statement(FEBRUARY, old, &[first, second], new)
+}
+
+/// An 01 or 07.
+fn balance(code: &str, date: &str, amount: &str) -> Vec<u8> {
+    let mut record = plain(code, "0001234567A", date);
+    put(&mut record, 91, amount.as_bytes());
+    record
+}
+
+/// A 04, its free zones blank.
+fn movement(date: &str, amount: &str) -> Vec<u8> {
+    let mut record = balance("04", date, amount);
+    put(&mut record, 33, b"05");
+    put(&mut record, 43, date.as_bytes());
+    put(&mut record, 82, b"000000000");
+    record
+}
+
+/// A 05 of a movement of February, from its qualifier on.
+fn complement(text: &str) -> Vec<u8> {
+    let mut record = plain("05", "0001234567A", FEBRUARY[0]);
+    put(&mut record, 33, b"05");
+    put(&mut record, 46, text.as_bytes());
+    record
+}
+
+/// The same with bytes at a position of a record, whose index counts from 0.
+fn with(mut records: Records, record: usize, position: usize, bytes: &[u8]) -> Records {
+    put(&mut records[record], position, bytes);
+    records
+}
+
+/// Where `with_texts` puts its text, as `with` counts: twice in the label of the first movement, in
+/// its reference, and in its complement in the place of an amount.
+const TEXTS: [(usize, usize); 4] = [(1, 49), (1, 66), (1, 105), (2, 91)];
+
+/// A statement of February with a complement, and a text in all places for one.
+fn with_texts(mut records: Records, text: &str) -> Records {
+    records.insert(2, complement("LIBAVOIR"));
+    let put = |records, (record, position)| with(records, record, position, text.as_bytes());
+    TEXTS.into_iter().fold(records, put)
+}
