@@ -1,12 +1,13 @@
-//! Sample files with readable content: an estate's account over three months, a second account
-//! beside it, and one file for each of the commonest refusals. They are fixed: no seed.
+//! Sample files with readable content: an estate's account over three months, a loan beside it, an
+//! account at nil with either zero, and one file for each of the commonest refusals. They are fixed:
+//! no seed.
 
 use std::fs;
 use std::io;
 use std::path::Path;
 
 use crate::check::check;
-use crate::record::{line_end, plain, put, write_amount, RECORD};
+use crate::record::{is_nil, line_end, plain, put, write_amount, CREDIT_ZERO, DEBIT_ZERO, RECORD};
 use crate::write::answer_text;
 
 const NONE: u64 = 0;
@@ -163,6 +164,30 @@ fn loan(old_date: &'static str, old_balance: i64, new_date: &'static str) -> Rec
     })
 }
 
+/// An account that is kept empty, January and February 2025: no movement, then two that cancel out.
+/// The bank writes its zeros so.
+fn at_nil(zero: &[u8]) -> Records {
+    let month = |old_date, new_date, movements| {
+        statement(&Month {
+            account: "00011122233",
+            old_date,
+            old_balance: 0,
+            new_date,
+            movements,
+        })
+    };
+    let movements = vec![
+        receipt("120225", 318_400, "LIBNOISETTES SOLDE RECOLTE"),
+        movement("06", "130225", "VIREMENT COMPTE PRINCIPAL", -318_400),
+    ];
+    let january = month("311224", "310125", Vec::new());
+    let mut records = [january, month("310125", "280225", movements)].concat();
+    for record in records.iter_mut().filter(|record| is_nil(record)) {
+        put(record, 91, zero);
+    }
+    records
+}
+
 /// Records with a line end after each.
 fn file(number: u64, records: &[Vec<u8>]) -> Vec<u8> {
     let lines = records
@@ -199,6 +224,8 @@ fn accepted() -> Vec<Sample> {
         sample("estate-2025-02.cfonb", LF, &[february()]),
         sample("estate-2025-03.cfonb", CRLF, &[march()]),
         sample("two-accounts.cfonb", CRLF, &interleaved),
+        sample("estate-at-nil.cfonb", LF, &[at_nil(DEBIT_ZERO)]),
+        sample("estate-at-nil-again.cfonb", LF, &[at_nil(CREDIT_ZERO)]),
     ]
 }
 

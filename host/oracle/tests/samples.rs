@@ -40,6 +40,8 @@ fn answers_of_the_check() {
         ("estate-2025-02.cfonb", "accepted 1 4 1"),
         ("estate-2025-03.cfonb", "accepted 1 4 1"),
         ("two-accounts.cfonb", "accepted 4 10 2"),
+        ("estate-at-nil.cfonb", "accepted 2 2 1"),
+        ("estate-at-nil-again.cfonb", "accepted 2 2 1"),
         ("refused-02-cut.cfonb", "refused 2 0"),
         ("refused-04-line-end.cfonb", "refused 4 4"),
         ("refused-05-byte.cfonb", "refused 5 5"),
@@ -64,7 +66,8 @@ fn answers_of_the_check() {
     }
 }
 
-/// The months one by one are held after all three at once; a month that is missing is refused.
+/// The months one by one are held after all three at once, and the statements at nil after those
+/// with the other zero; a month that is missing is refused.
 #[test]
 fn answers_of_delivery() {
     let mut journal = vec![0; 7_680 + 120 * 100];
@@ -77,7 +80,9 @@ fn answers_of_delivery() {
     }
     let delivered = |stored, held| Ok(Delivered { stored, held });
     let once = delivered(0, 1);
-    assert_eq!(answers, [delivered(3, 0), once.clone(), once.clone(), once]);
+    let months = [delivered(3, 0), once, once, once];
+    let at_nil = [delivered(2, 0), delivered(0, 2)];
+    assert_eq!(answers, [&months[..], &at_nil].concat());
     open(&mut journal).unwrap();
     let gap = samples().pop().unwrap();
     let refusal = Refusal {
@@ -88,4 +93,21 @@ fn answers_of_delivery() {
         deliver(&mut journal, gap.line_end, &gap.bytes),
         Err(refusal)
     );
+}
+
+/// The two samples at nil differ in the sign of each zero, and in nothing else.
+#[test]
+fn zeros_of_the_samples_at_nil() {
+    let [debits, credits] = ["estate-at-nil.cfonb", "estate-at-nil-again.cfonb"]
+        .map(|name| std::fs::read(kept().join(name)).unwrap());
+    let pairs = debits.iter().zip(&credits).enumerate();
+    let different: Vec<usize> = pairs
+        .filter(|(_, (a, b))| a != b)
+        .map(|(at, _)| at)
+        .collect();
+    // The four balances: records 1, 2, 3 and 7.
+    assert_eq!(different, [0, 1, 2, 6].map(|record| 121 * record + 103));
+    assert!(different
+        .iter()
+        .all(|&at| (debits[at], credits[at]) == (b'}', b'{')));
 }
