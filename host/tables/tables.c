@@ -230,7 +230,7 @@ static bool run_writing(struct source *source, const struct place *place) {
     return !source->broken && write_all(place, &call);
 }
 
-/* A statement read into a table and written from it: the same records. */
+/* A statement read into a table and written from it: the records of the case, with `{` for each of its zeros. */
 static bool run_trip(struct source *source, const struct place *place) {
     struct call call = {0};
     take_question(source, &call);
