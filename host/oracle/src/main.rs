@@ -19,7 +19,7 @@ use oracle::series;
 use oracle::series_cases::{big_series, kept_series, nil_series};
 use oracle::show::{complement_line, head_line, line, place_line, readings, row_line};
 use oracle::table_cases::replay_tables;
-use oracle::write::{answer_text, big, corpus, kept, nil};
+use oracle::write::{answer_text, big, corpus, kept, nil_files};
 
 const USAGE: &str = "usage:
   oracle check LINE_END FILE..
@@ -81,7 +81,7 @@ fn run(arguments: &[&str]) -> io::Result<()> {
             print_lines(&kept(number(seed)?, count, Path::new(directory))?)
         }
         ["big", directory] => print_lines(&big(Path::new(directory))?),
-        ["nil", directory] => print_lines(&nil(Path::new(directory))?),
+        ["nil", directory] => print_lines(&nil_files(Path::new(directory))?),
         ["samples", directory] => print_lines(&write_samples(Path::new(directory))?),
         ["listings", seed, count, directory] => {
             let count = number(count)? as usize;

@@ -24,18 +24,26 @@ const MARCH: [&str; 2] = ["280225", "310325"];
 /// Records without line ends.
 type Records = Vec<Vec<u8>>;
 
-/// A file and what is expected of the check.
-pub struct Vector {
-    name: &'static str,
-    claim: Claim,
-    records: Records,
+/// The name of a file, what is expected of the check, the records.
+type Vector = (&'static str, Claim, Records);
+
+/// All files, with each line end.
+pub fn checks() -> Vec<Case> {
+    let vectors = vectors();
+    let with = |line_end| vectors.iter().map(move |vector| check(vector, line_end));
+    (0..3).flat_map(with).collect()
 }
 
-impl Vector {
-    /// The file with this line end.
-    pub fn case(&self, line_end: u64) -> Case {
-        case(self.name, &draft(&self.records, line_end), self.claim)
-    }
+/// Each file once. The line ends take turns.
+pub fn kept() -> Vec<Case> {
+    let turns = vectors().into_iter().zip((0..3).cycle());
+    turns
+        .map(|(vector, line_end)| check(&vector, line_end))
+        .collect()
+}
+
+fn check((name, claim, records): &Vector, line_end: u64) -> Case {
+    case(name, &draft(records, line_end), *claim)
 }
 
 fn draft(records: &[Vec<u8>], line_end: u64) -> Draft {
@@ -47,21 +55,12 @@ fn draft(records: &[Vec<u8>], line_end: u64) -> Draft {
     draft
 }
 
-/// All files.
-pub fn vectors() -> Vec<Vector> {
-    let lists = [accepted(), refused(), texts(), several()];
-    let vector = |(name, claim, records)| Vector {
-        name,
-        claim,
-        records,
-    };
-    lists.into_iter().flatten().map(vector).collect()
+fn vectors() -> Vec<Vector> {
+    [accepted(), refused(), texts(), several()].concat()
 }
 
-type Listed = (&'static str, Claim, Records);
-
 /// N1, N9: a debit zero wherever an amount stands.
-fn accepted() -> Vec<Listed> {
+fn accepted() -> Vec<Vector> {
     let list = [
         ("N1-in-01-and-07", quiet(DEBIT, DEBIT)),
         ("N1-in-01", quiet(DEBIT, CREDIT)),
@@ -82,7 +81,7 @@ fn accepted() -> Vec<Listed> {
 }
 
 /// N1: what is wrong beside a debit zero, and what is none.
-fn refused() -> Vec<Listed> {
+fn refused() -> Vec<Vector> {
     let nil = || quiet(DEBIT, DEBIT);
     let movement = || statement(FEBRUARY, DEBIT, &[DEBIT], DEBIT);
     let [mut doubled, mut open, mut mmo] = [nil(), nil(), movement()];
@@ -137,7 +136,7 @@ fn refused() -> Vec<Listed> {
 }
 
 /// N3: the same text in label, reference and information, there in the place of an amount.
-fn texts() -> Vec<Listed> {
+fn texts() -> Vec<Vector> {
     let worth_a_hundred = statement(FEBRUARY, HUNDRED, &[CREDIT], HUNDRED);
     vec![
         (
@@ -154,7 +153,7 @@ fn texts() -> Vec<Listed> {
 }
 
 /// N4, N5: several statements of the account.
-fn several() -> Vec<Listed> {
+fn several() -> Vec<Vector> {
     let march = statement(MARCH, DEBIT, &[], DEBIT);
     let both_writings = [quiet(DEBIT, DEBIT), quiet(CREDIT, CREDIT)].concat();
     vec![

@@ -68,7 +68,7 @@ pub fn add_length(cases: &mut Cases, line_end: u64, length: u64) -> io::Result<(
 }
 
 /// The large files, which show refusals 3 and 15, the hostile ones, and the vectors of amounts of
-/// nothing with each line end.
+/// nothing.
 fn fixed_checks(rng: &mut Rng) -> Vec<Case> {
     let mut cases = Vec::new();
     for (number, recipe) in giants().iter().enumerate() {
@@ -80,10 +80,7 @@ fn fixed_checks(rng: &mut Rng) -> Vec<Case> {
         cases.extend(drafts.find_map(|draft| recipe.damage(rng, draft)));
     }
     cases.append(&mut hostile::checks(rng));
-    for line_end in 0..3 {
-        let vectors = nil::vectors();
-        cases.extend(vectors.iter().map(|vector| vector.case(line_end)));
-    }
+    cases.append(&mut nil::checks());
     cases
 }
 

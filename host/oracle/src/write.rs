@@ -7,7 +7,7 @@ use std::path::Path;
 
 use crate::check::{check, Answer};
 use crate::damage::{case, families, giants, pick, recipes, Case, Claim, Recipe};
-use crate::nil::vectors;
+use crate::nil;
 use crate::rng::Rng;
 use crate::valid::{file, small_file, Draft};
 
@@ -198,11 +198,9 @@ pub fn big(directory: &Path) -> io::Result<Vec<String>> {
     write_cases(directory, &cases)
 }
 
-/// Writes the vectors of amounts of nothing to a directory and lists them. The line ends take turns.
-pub fn nil(directory: &Path) -> io::Result<Vec<String>> {
-    let turns = (0..3).cycle().zip(vectors());
-    let cases: Vec<Case> = turns.map(|(end, vector)| vector.case(end)).collect();
-    write_cases(directory, &cases)
+/// Writes the vectors of amounts of nothing to a directory and lists them.
+pub fn nil_files(directory: &Path) -> io::Result<Vec<String>> {
+    write_cases(directory, &nil::kept())
 }
 
 /// Writes each case as NNN.cfonb. A listing line has four columns with tabs between: file name,

@@ -4,7 +4,7 @@
 use std::path::PathBuf;
 
 use oracle::check::{check, Answer};
-use oracle::nil::{series, vectors};
+use oracle::nil;
 use oracle::read::{complement, head, movement, place};
 use oracle::series::run;
 use oracle::show::{complement_line, head_line, line, place_line, readings, row_line};
@@ -93,8 +93,7 @@ fn answers_of_journal_cases() {
 /// The readers have those that are accepted.
 #[test]
 fn last_files_are_the_vectors() {
-    let turns = (0..3).cycle().zip(vectors());
-    let cases: Vec<_> = turns.map(|(end, vector)| vector.case(end)).collect();
+    let cases = nil::kept();
     let accepted = cases
         .iter()
         .filter(|case| matches!(case.expected, Some(Answer::Accepted { .. })));
@@ -115,7 +114,7 @@ fn last_files_are_the_vectors() {
 fn last_series_are_the_vectors() {
     let names = text("journal_cases", "args");
     let names: Vec<&str> = names.lines().collect();
-    let series = series();
+    let series = nil::series();
     let last = &names[names.len() - series.len()..];
     for (name, case) in last.iter().zip(&series) {
         assert!(data("journal_cases", name) == case.bytes, "{}", case.name);

@@ -2,9 +2,9 @@
 
 use super::calls::{reading, Call, TableCase};
 use crate::check::Answer;
-use crate::damage::{giants, recipes, Case};
+use crate::damage::{giants, recipes};
 use crate::hostile;
-use crate::nil::vectors;
+use crate::nil;
 use crate::rng::Rng;
 use crate::valid::{file, one_statement, Draft};
 use crate::write::small_damaged_case;
@@ -72,22 +72,11 @@ fn add_hostile(rng: &mut Rng, cases: &mut Vec<TableCase>) {
 /// Amounts of nothing with either zero: each file read, and where it is accepted its first statement
 /// written again.
 fn add_nil(cases: &mut Vec<TableCase>) {
-    let ends = 0..3;
-    let vectors = ends.flat_map(|end| vectors().into_iter().map(move |vector| vector.case(end)));
-    for case in vectors {
-        let Case {
-            name,
-            line_end,
-            bytes: file,
-            expected,
-        } = case;
-        cases.push(reading(name.clone(), line_end, file.clone(), 1, 2));
-        if let Some(Answer::Accepted { .. }) = expected {
-            let call = Call::Trip {
-                line_end,
-                file,
-                k: 1,
-            };
+    for case in nil::checks() {
+        let (line_end, file, k) = (case.line_end, case.bytes, 1);
+        cases.push(reading(case.name.clone(), line_end, file.clone(), k, 2));
+        if let Some(Answer::Accepted { .. }) = case.expected {
+            let (name, call) = (case.name, Call::Trip { line_end, file, k });
             cases.push(TableCase { name, call });
         }
     }

@@ -18,7 +18,7 @@ use oracle::contents::{listed, Listed};
 use oracle::delivery::{deliver, newest, Newest, Source};
 use oracle::journal::{as_stored, body, entry, is_sound, open, used, Used};
 use oracle::listing::listing;
-use oracle::nil::{series, vectors};
+use oracle::nil::{checks, series};
 use oracle::read::{head, movement as read_movement, place, statements, Place, Refusal};
 use oracle::series::run;
 use oracle::show::readings;
@@ -557,15 +557,12 @@ fn n10_entries() {
 
 // The vectors that go to the replay.
 
-/// Each says what it expects, with every line end.
+/// Each says what it expects.
 #[test]
 fn vectors_get_the_answer_they_expect() {
-    for vector in vectors() {
-        for line_end in 0..3 {
-            let case = vector.case(line_end);
-            let answer = check(line_end, &case.bytes);
-            assert_eq!(case.expected, Some(answer), "{}", case.name);
-        }
+    for case in checks() {
+        let answer = check(case.line_end, &case.bytes);
+        assert_eq!(case.expected, Some(answer), "{}", case.name);
     }
 }
 

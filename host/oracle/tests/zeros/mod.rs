@@ -4,12 +4,10 @@
 pub fn signed(line_end: u64, file: &[u8], sign: u8) -> Vec<u8> {
     let mut bytes = file.to_vec();
     for line in bytes.chunks_mut(120 + line_end as usize) {
-        let codes = [&b"01"[..], b"04", b"07"];
-        let has_amount = codes.iter().any(|code| line.starts_with(code));
+        let has_amount = matches!(line.get(..2), Some(b"01" | b"04" | b"07"));
         let nil = line.get(90..103) == Some(b"0000000000000");
-        match line.get_mut(103) {
-            Some(last) if has_amount && nil && b"{}".contains(last) => *last = sign,
-            _ => {}
+        if has_amount && nil && matches!(line.get(103), Some(b'{' | b'}')) {
+            line[103] = sign;
         }
     }
     bytes
