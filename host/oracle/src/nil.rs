@@ -59,7 +59,7 @@ fn vectors() -> Vec<Vector> {
     [accepted(), refused(), texts(), several()].concat()
 }
 
-/// N1, N9: a debit zero wherever an amount stands.
+/// N1: a debit zero wherever an amount stands.
 fn accepted() -> Vec<Vector> {
     let list = [
         ("N1-in-01-and-07", quiet(DEBIT, DEBIT)),
@@ -135,7 +135,7 @@ fn refused() -> Vec<Vector> {
     ]
 }
 
-/// N3: the same text in label, reference and information, there in the place of an amount.
+/// N3, N9: the same text in label, reference and information, there in the place of an amount.
 fn texts() -> Vec<Vector> {
     let worth_a_hundred = statement(FEBRUARY, HUNDRED, &[CREDIT], HUNDRED);
     vec![
