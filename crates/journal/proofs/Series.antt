@@ -14,10 +14,10 @@ use Rattle.framing.specs.Files.{All}
 use Rattle.grammar.specs.declared.Key.{Key}
 use Rattle.grammar.specs.Record.{sameKey}
 use Rattle.grammar.specs.Statements.{Movement, Statement, plus}
-use Rattle.grammar.specs.Files.{Reads, Writable, statementsOf}
+use Rattle.grammar.specs.Files.{canonical, Reads, Writable, statementsOf}
 use Rattle.grammar.specs.Parts.{sizeOf}
 use Rattle.records.specs.July.{july}
-use Rattle.records.proofs.Theorems.{counts, reads, unique}
+use Rattle.records.proofs.Theorems.{counts, reads, unique, reads-canonical}
 use Rattle.bodies.specs.Bodies.{bodyOf, identical}
 use Rattle.journal_layout.specs.Chains.{heldAmong, Chained, ofAccount}
 use Rattle.journal_layout.specs.Layout.{isLength, layoutOf, Journal, openedOf}
@@ -181,6 +181,15 @@ module _ (j : List ℕ) (right : isLength (length j) ≡ true) where
       let d = series (x .journal) later in
       let q : HeldBy (y .0) (statementsOf july f b) = rw (x .list) (arrived-held H (statementsOf july f b)) in
       rw (after-append ours (openedOf j) es (deliver f b ∷ later)) (wholly-held d g c r (held-more (y .0) _ (statementsOf july f b) q))
+
+  -- so the same file, with either zero wherever it has one
+  pub either-zero : (es : List Event) (f : Form) (b : List ℕ) (s h : ℕ) → ours (after ours (openedOf j) es) f b .answer ≡ Done s h
+      → (later : List Event) (c : List ℕ) → canonical july f c ≡ canonical july f b
+      → ours (after ours (openedOf j) (es ++ (deliver f b ∷ later))) f c
+      ≡ record { answer = Done 0 (length (statementsOf july f b)); journal = after ours (openedOf j) (es ++ (deliver f b ∷ later)) }
+  either-zero es f b s h e later c z =
+      let r = stored (from-opening es) f b (answered (outcomeOf (after ours (openedOf j) es) f b) e .1) .read in
+      sent-again es f b s h e later f c (reads-canonical .1 (rw z (reads-canonical .0 r)))
 
 pub demand3 : Demand3 openedOf ours
 demand3 =
