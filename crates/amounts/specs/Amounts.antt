@@ -83,7 +83,7 @@ debitZero = bytes "0000000000000}"
 abbrev pub creditZero : List ℕ
 creditZero = bytes "0000000000000{"
 
--- an amount's bytes as they are written: a debit zero as a credit, all others as they stand
+-- an amount's bytes as the writer writes them: a debit zero as a credit, all others as they stand
 unfoldable pub asWritten : List ℕ → List ℕ
 asWritten s = pick (sameBytes s debitZero) creditZero s
 

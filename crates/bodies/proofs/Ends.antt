@@ -37,7 +37,7 @@ module _ {f : Form} {b : List ℕ} {s : Statement} (r : Reads july f b (s ∷ []
   unfolding recordsBefore
   length-part = sym (after-last r) ∙ ap (λ (n : ℕ). n * w) (omega arith)
 
-  -- its first record is its 01, kept as it is written
+  -- its first record is its 01, kept as the writer writes it
   first-held : HoldsAt b 0 (opening (s .key) (s .old-date) (s .old-balance))
   first-held = rw (zero-mul w) at (record-there r 0 (all-cons july2004 s []))
 
@@ -51,7 +51,7 @@ module _ {f : Form} {b : List ℕ} {s : Statement} (r : Reads july f b (s ∷ []
   abbrev records-before-last : ℕ
   records-before-last = before r 0 (omega arith) (length (s .movements))
 
-  -- its last record is its 07, kept as it is written
+  -- its last record is its 07, kept as the writer writes it
   last-record : drop records-before-last (allRecords july2004 (s ∷ []))
       ≡ closing (s .key) (s .new-date) (s .new-balance) ∷ rest r 0 (omega arith) (length (s .movements)) .0
   last-record = rest r 0 (omega arith) (length (s .movements)) .1 ∙ rw (drop-length (s .movements))

@@ -46,7 +46,7 @@ module _ (b : List ℕ) where
   unfolding single
   refused-alone e = sym (rw (not-counted (checkOf july plain b) e))
 
--- the test is passed exactly by the files of one statement, and this is it
+-- what passes the test is a file of one statement, and this is it
 one-of : (ss : List Statement) → length ss ≡ 1 → ss ≡ getD ss 0 nothing ∷ []
 one-of [] e = absurd (omega arith)
 one-of (s ∷ []) e = refl
@@ -80,7 +80,7 @@ unfolding endOf
 unended [] = refl
 unended (r ∷ rs) = ap₂ _∷_ (sym (append-nil (encodeRecord r))) (unended rs)
 
-body-layout : (s : Statement) → bodyOf s ≡ layoutOf july plain (s ∷ [])
+pub body-layout : (s : Statement) → bodyOf s ≡ layoutOf july plain (s ∷ [])
 unfolding bodyOf layoutOf fileOf
 body-layout s = ap flat (unended (recordsOf july2004 s) ∙ ap (piecesFor july plain) (sym (one-records july2004 s)))
 

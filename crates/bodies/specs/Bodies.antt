@@ -21,7 +21,7 @@ use Rattle.contents.specs.Heads.{recordAtOf}
 abbrev pub plain : Form
 plain = record { «line_end» = 0 }
 
--- the form in which the journal keeps a record: as it is written
+-- the form in which the journal keeps a record: as the writer writes it
 unfoldable pub kept : List ℕ → List ℕ
 kept r = canonRecord r
 
@@ -64,7 +64,7 @@ sameRows [] (q ∷ qs) = false
 sameRows (p ∷ ps) [] = false
 sameRows (p ∷ ps) (q ∷ qs) = sameRecord (take recordSize p) (take recordSize q) && sameRows ps qs
 
--- two parts hold the same records, whatever their line ends; none of an unknown line end
+-- two parts hold the same records, whatever their line ends and the signs of their zeros; none of an unknown line end
 unfoldable pub sameRecords : Form → List ℕ → Form → List ℕ → Bool
 sameRecords f a g b =
     pick (unknownEnd f || unknownEnd g) false (sameRows (piecesOf recordSize f a) (piecesOf recordSize g b))

@@ -10,7 +10,7 @@ ghost use Rattle.bodies.specs.Answers.{IsSingle, SameRecords, ClosingOf,
 use framing::Form;
 use statements::Checked;
 
-// Whether a debit zero stands where an 01, 04 or 07 has its amount. Most records are told by their last digit alone.
+// Whether a debit zero stands in 91-104 of a record that is no 05. Most records are told by their last digit alone.
 fn has_debit_zero(r: &[u8]) -> bool
     requires { ⌜ length (now r) ≡ recordSize ⌝ }
     ensures { λ t. ⌜ t ≡ hasDebitZero (now (r .entry)) ⌝ }
@@ -66,7 +66,7 @@ fn put_record(dst: &mut [u8], r: &[u8])
     }
 }
 
-// Whether two records are kept alike. Those that differ can be only where one has a debit zero.
+// Whether two records are kept alike. Records that differ are kept alike only where one has a debit zero.
 fn same_record(a: &[u8], b: &[u8]) -> bool
     requires { ⌜ (length (now a) ≡ recordSize) × (length (now b) ≡ recordSize) ⌝ }
     ensures { λ t. ⌜ t ≡ sameRecord (now (a .entry)) (now (b .entry)) ⌝ }
@@ -105,7 +105,7 @@ fn same_rows(a: &[u8], v: usize, b: &[u8], w: usize, count: usize) -> bool
     true
 }
 
-// Whether two parts hold the same records. Line ends do not count.
+// Whether two parts hold the same records. Line ends do not count, nor does the sign of a zero.
 pub fn same_records(f: Form, a: &[u8], g: Form, b: &[u8]) -> bool
     ensures { λ t. ⌜ SameRecords f (now (a .entry)) g (now (b .entry)) t ⌝ }
 {

@@ -19,9 +19,9 @@ use Rattle.grammar.specs.Statements.{Statement, allRecords}
 use Rattle.grammar.specs.Files.{recOf, pieces, Reads, Fine}
 use Rattle.grammar.proofs.Parts.{all-drop}
 use Rattle.grammar.proofs.Canonical.{wide-all}
-use Rattle.records.specs.July.{recordSize, Holds, july, july2004, decodeRecord, canonRecord, encodeRecord}
+use Rattle.records.specs.July.{recordSize, july, july2004, decodeRecord, canonRecord, encodeRecord}
 use Rattle.records.proofs.Lawful.{july-lawful}
-use Rattle.readers.proofs.Rows.{ok-from, from-record, records-from, fine-from}
+use Rattle.readers.proofs.Rows.{from-record, records-from, fine-from}
 use Rattle.contents.specs.Heads.{recordAtOf}
 
 -- as the code comes to it
@@ -53,10 +53,6 @@ whole-inside b at e = by (ltb (length b) (at + recordSize)) refl e
     by false p g = ltb-false (length b) (at + recordSize) p
 
 module _ {f : Form} {b : List ℕ} {ss : List Statement} (r : Reads july f b ss) where
-  -- what it can hold
-  holds-there : (n : ℕ) {x : Rec} {l : List Rec} → drop n (allRecords july2004 ss) ≡ x ∷ l → Holds x
-  holds-there n {x} {l} e = let o : All Holds (x ∷ l) = rw e at (ok-from r n) in o .0
-
   -- record n, from 0: its values
   pub record-there : (n : ℕ) {x : Rec} {l : List Rec} → drop n (allRecords july2004 ss) ≡ x ∷ l → HoldsAt b (n * widthOf recordSize f) x
   unfolding recordAtOf flat widthOf
@@ -74,6 +70,6 @@ module _ {f : Form} {b : List ℕ} {ss : List Statement} (r : Reads july f b ss)
           let v : recOf july p ≡ x = cc in
           record { whole = ap length u ∙ length-take-le recordSize p h; values = ap decodeRecord u ∙ v; fine = rw u (o .0) }
 
--- the record at a place as it is written
+-- the record at a place as the writer writes it
 pub record-kept : {b : List ℕ} {at : ℕ} {x : Rec} → HoldsAt b at x → canonRecord (recordAtOf b at) ≡ encodeRecord x
 record-kept {b} {at} h = sym (july-lawful .again (recordAtOf b at) (h .whole) (h .fine)) ∙ ap encodeRecord (h .values)

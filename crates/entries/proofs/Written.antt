@@ -116,7 +116,7 @@ module _ (first n : ℕ) (o c : List ℕ) (h : length o ≡ recordSize) (k : len
   entry-read f m =
       rw (eq-eqb (length (entryText first n o c)) entrySize length-entry, count-begins, first-digits, count-digits, value-digits 6 first f, value-digits 4 n m)
 
--- KEPT: an entry is the same of records as they are written; what it takes of them stands before their amounts
+-- KEPT: an entry is the same of records as the writer writes them; what it takes of them stands before their amounts
 key-kept : (o : List ℕ) → length o ≡ recordSize → keyText (canonRecord o) ≡ keyText o
 unfolding keyText
 key-kept o h =

@@ -20,17 +20,17 @@ use Rattle.grammar.specs.Statements.{back}
 use Rattle.grammar.specs.Files.{Coding, Fine, Lawful, recOf, pieces, canonPiece, canonical, fileRules, files, checkOf, statementsOf}
 
 module _ (C : Coding) (L : Lawful C) (f : Form) where
-  -- a whole piece as it is written: the same line end, the same values, the same rules
-  record Kept (p : List ℕ) : Type 0 where
+  -- a whole piece as the writer writes it: the same line end, the same values, the same rules
+  record Written (p : List ℕ) : Type 0 where
     width : length (canonPiece C p) ≡ widthOf (C .size) f
     body : take (C .size) (canonPiece C p) ≡ C .canon (take (C .size) p)
     rules : (m : Mode) → fileRules C f m (canonPiece C p) ≡ fileRules C f m p
     values : recOf C (canonPiece C p) ≡ recOf C p
 
   -- this holds of every whole piece, by the law `alike`
-  kept : (p : List ℕ) → length p ≡ widthOf (C .size) f → Kept p
+  written : (p : List ℕ) → length p ≡ widthOf (C .size) f → Written p
   unfolding widthOf
-  kept p w =
+  written p w =
       let x = take (C .size) p in
       let l : length x ≡ C .size = length-take-le (C .size) p (omega arith) in
       let a = L .alike x l in
@@ -48,13 +48,13 @@ module _ (C : Coding) (L : Lawful C) (f : Form) where
   -- a row of pieces stays whole
   wide-canon : (ps : List (List ℕ)) → Wide (widthOf (C .size) f) ps → Wide (widthOf (C .size) f) (map (canonPiece C) ps)
   wide-canon [] w = tt
-  wide-canon (p ∷ ps) w = (kept p (w .0) .width, wide-canon ps (w .1))
+  wide-canon (p ∷ ps) w = (written p (w .0) .width, wide-canon ps (w .1))
 
-  -- its records are those of the pieces, as they are written
+  -- its records are those of the pieces, as the writer writes them
   pub bodies-canon : (ps : List (List ℕ)) → Wide (widthOf (C .size) f) ps
       → map (take (C .size)) (map (canonPiece C) ps) ≡ map (λ p. C .canon (take (C .size) p)) ps
   bodies-canon [] w = refl
-  bodies-canon (p ∷ ps) w = ap₂ _∷_ (kept p (w .0) .body) (bodies-canon ps (w .1))
+  bodies-canon (p ∷ ps) w = ap₂ _∷_ (written p (w .0) .body) (bodies-canon ps (w .1))
 
   -- where no rule on the bytes applies to them none applies to what stood
   pub fine-canon : (ps : List (List ℕ)) → Wide (widthOf (C .size) f) ps → All (Fine C) (map (λ p. C .canon (take (C .size) p)) ps)
@@ -75,7 +75,7 @@ module _ (C : Coding) (L : Lawful C) (f : Form) where
   -- they hold the same values
   pub recs-canon : (ps : List (List ℕ)) → Wide (widthOf (C .size) f) ps → map (recOf C) (map (canonPiece C) ps) ≡ map (recOf C) ps
   recs-canon [] w = refl
-  recs-canon (p ∷ ps) w = ap₂ _∷_ (kept p (w .0) .values) (recs-canon ps (w .1))
+  recs-canon (p ∷ ps) w = ap₂ _∷_ (written p (w .0) .values) (recs-canon ps (w .1))
 
   -- and the pass over them answers alike, from any state
   scan-canon : (ps : List (List ℕ)) (i : ℕ) (s : State) → Wide (widthOf (C .size) f) ps
@@ -83,7 +83,7 @@ module _ (C : Coding) (L : Lawful C) (f : Form) where
   unfolding scan judgeOf
   scan-canon [] i s w = refl
   scan-canon (p ∷ ps) i s w =
-      let k = kept p (w .0) in
+      let k = written p (w .0) in
       ap₂ (λ n a. pick (eqb n 0) a (refused n (i + 1))) (ap firstOf (k .rules (s .mode)))
       (ap (λ r. scan (files C f) (i + 1) (taken (C .edition) s r) (map (canonPiece C) ps)) (k .values)
       ∙ scan-canon ps (i + 1) (taken (C .edition) s (recOf C p)) (w .1))
@@ -117,7 +117,7 @@ module _ (C : Coding) (L : Lawful C) (f : Form) where
         let l : length (flat (map (canonPiece C) ps)) ≡ m * w = length-flat w _ (wide-canon ps wide-all) ∙ ap (λ k. k * w) n in
         omega (arith, length-append (flat (map (canonPiece C) ps)) (drop (m * w) b), length-drop (m * w) b, fit)
 
-    -- it is cut into the pieces as they are written
+    -- it is cut into the pieces as the writer writes them
     pub pieces-canonical : pieces C f (canonical C f b) ≡ map (canonPiece C) (pieces C f b)
     unfolding canonical
     pieces-canonical =
@@ -142,7 +142,7 @@ module _ (C : Coding) (L : Lawful C) (f : Form) where
     statements-canonical =
         ap (λ rs. back rs .whole) (ap (map (recOf C)) pieces-canonical ∙ recs-canon (pieces C f b) wide-all)
 
-    -- the bytes are their own canonical form where each record is as it is written
+    -- the bytes are their own canonical form where each record is as the writer writes it
     pub own-of : All (λ p. C .canon (take (C .size) p) ≡ take (C .size) p) (pieces C f b) → canonical C f b ≡ b
     unfolding canonical
     own-of h = rw (same (pieces C f b) h) (flat-chunks-then (widthOf (C .size) f) (countOf (C .size) f b) b fit)
@@ -157,7 +157,7 @@ module _ (C : Coding) (L : Lawful C) (f : Form) where
       where
         each : (ps : List (List ℕ)) → Wide (widthOf (C .size) f) ps → map (canonPiece C) ps ≡ ps → All (λ p. C .canon (take (C .size) p) ≡ take (C .size) p) ps
         each [] w g = tt
-        each (p ∷ ps) w g = (sym (kept p (w .0) .body) ∙ ap (take (C .size)) (cc), each ps (w .1) (cc))
+        each (p ∷ ps) w g = (sym (written p (w .0) .body) ∙ ap (take (C .size)) (cc), each ps (w .1) (cc))
 
   -- once written, a file is its own canonical form
   pub canonical-once : (b : List ℕ) → canonical C f (canonical C f b) ≡ canonical C f b
@@ -168,5 +168,5 @@ module _ (C : Coding) (L : Lawful C) (f : Form) where
       each [] w = tt
       each (p ∷ ps) w =
           let l : length (take (C .size) p) ≡ C .size = length-take-le (C .size) p (omega (arith, w .0)) in
-          let k = kept p (w .0) .body in
+          let k = written p (w .0) .body in
           (ap (C .canon) k ∙ (L .once (take (C .size) p) l ∙ sym k), each ps (w .1))

@@ -45,7 +45,7 @@ module _ (C : Coding) where
   unfolding layoutOf allRecords fileOf flat
   empty-given = record { line = refl; valid = tt; ok = tt; layout = refl; few = omega arith }
 
-  -- and stands as it is written
+  -- and stands as the writer writes it
   empty-own : (f : Form) → canonical C f [] ≡ []
   unfolding canonical flat chunks
   empty-own f =

@@ -1,4 +1,4 @@
--- The check of a file accepts exactly the layouts of valid statements; these are determined, and the counts are theirs.
+-- The check accepts exactly the files that are the layout of valid statements once each record is as the writer writes it; these are determined, and the counts are theirs.
 use mathlib.Core.Path.{_≡_, refl, sym, _∙_, ap}
 use mathlib.Core.Logic.{_↔_}
 use mathlib.Core.Bool.{Bool, true, false, not}
@@ -89,12 +89,12 @@ module _ (C : Coding) (L : Lawful C) where
   pub counts : {f : Form} {b : List ℕ} {ss : List Statement} → Reads C f b ss → checkOf C f b ≡ accepted (countsOf ss)
   counts {f} {b} r = sym (check-canonical C L f b) ∙ ap (checkOf C f) (sym (r .layout)) ∙ counts-layout r
 
-  -- the pieces of such a file, as they are written, are those of the records
+  -- the pieces of such a file, as the writer writes them, are those of the records
   pub reads-pieces : {f : Form} {b : List ℕ} {ss : List Statement} → Reads C f b ss
       → map (canonPiece C) (pieces C f b) ≡ piecesFor C f (allRecords (C .edition) ss)
   reads-pieces {f} {b} {ss} r = sym (pieces-canonical C L f b) ∙ ap (pieces C f) (sym (r .layout)) ∙ pieces-layout f ss (r .line) (r .ok)
 
-  -- so each record, as it is written, is the written record of its number
+  -- so each record, as the writer writes it, is the written record of its number
   pub reads-rows : {f : Form} {b : List ℕ} {ss : List Statement} → Reads C f b ss
       → map (λ p. C .canon (take (C .size) p)) (pieces C f b) ≡ map (C .encode) (allRecords (C .edition) ss)
   reads-rows {f} {b} {ss} r =
@@ -138,7 +138,7 @@ module _ (C : Coding) (L : Lawful C) where
   unfolding statementsOf
   reads-same {f} {b} {ss} r = ap (λ rs. back rs .whole) (reads-records r) ∙ back-all (C .edition) ss
 
-  -- an accepted file, as it is written, is the layout of what `statementsOf` gives
+  -- an accepted file, as the writer writes it, is the layout of what `statementsOf` gives
   pub reads : (f : Form) (b : List ℕ) {c : Counts} → checkOf C f b ≡ accepted c → Reads C f b (statementsOf C f b)
   unfolding checkOf statementsOf canonical layoutOf fileOf
   reads f b {c} e =
@@ -185,7 +185,7 @@ module _ (C : Coding) (L : Lawful C) where
   pub gives-reads : {f : Form} {b : List ℕ} {ss : List Statement} → Gives C f b ss → Reads C f b ss
   gives-reads {f} g = rw (← g .layout) (layout-reads (g .line) (g .valid) (g .ok) (g .few))
 
-  -- what a file reads as gives the file with each record as it is written
+  -- what a file reads as gives the file with each record as the writer writes it
   pub written-given : {f : Form} {b : List ℕ} {ss : List Statement} → Reads C f b ss → Gives C f (canonical C f b) ss
   written-given r = record { line = r .line; valid = r .valid; ok = r .ok; layout = r .layout; few = r .few }
 

@@ -86,7 +86,7 @@ module _ (E : Edition) where
       (take-at (recordsOf E s) (allRecords E (drop (suc j) ss)) (sizeOf s) (length-one s) ∙ sym (one-records E s))
 
 module _ (C : Coding) (L : Lawful C) {f : Form} {b : List ℕ} {ss : List Statement} (r : Reads C f b ss) (j : ℕ) (h : j < length ss) where
-  -- the part, as it is written, is the layout of its statement
+  -- the part, as the writer writes it, is the layout of its statement
   part-layout : layoutOf C f (getD ss j nothing ∷ []) ≡ canonical C f (partOf C f b (j + 1))
   unfolding partOf layoutOf fileOf
   part-layout =

@@ -20,7 +20,7 @@ use Rattle.grammar.proofs.Tests.{off, of-off}
 use Rattle.grammar.proofs.Runs.{Clean}
 use Rattle.grammar.proofs.Quiet.{quiet, of-quiet}
 
--- what is written is as it is written
+-- the written form of what is written is itself
 pub canon-encode : (C : Coding) → Lawful C → (r : Rec) → C .Ok r → C .canon (C .encode r) ≡ C .encode r
 canon-encode C L r o = sym (L .again (C .encode r) (L .wide r o) (L .fine r o)) ∙ ap (C .encode) (L .same r o)
 
@@ -75,7 +75,7 @@ module _ (C : Coding) (f : Form) where
       pub ok : All (C .Ok) (map (recOf C) ps)
       pub clean : Clean (recs (C .edition)) s (map (recOf C) ps)
 
-    -- clean pieces, as they are written, are those of their records, and these are clean
+    -- clean pieces, as the writer writes them, are those of their records, and these are clean
     pub down : (ps : List (List ℕ)) (s : State) → Wide (widthOf (C .size) f) ps → Clean (files C f) s ps → Down s ps
     unfolding judgeOf widthOf
     down [] s w h = record { same = refl; ok = tt; clean = tt }

@@ -17,11 +17,11 @@ unfolding allRecords
 one-records E s = append-nil (recordsOf E s)
 
 module _ (C : Coding) (L : Lawful C) where
-  -- an accepted file, read and written, is the file with each record as it is written
+  -- an accepted file, read and written, is the file with each record as the writer writes it
   pub read-written : (f : Form) (b : List ℕ) {c : Counts} → checkOf C f b ≡ accepted c → layoutOf C f (statementsOf C f b) ≡ canonical C f b
   read-written f b e = reads C L f b e .layout
 
-  -- so it is the same file where each record stands as it is written
+  -- so it is the same file where each record stands as the writer writes it
   pub own-written : (f : Form) (b : List ℕ) {c : Counts} → canonical C f b ≡ b → checkOf C f b ≡ accepted c → layoutOf C f (statementsOf C f b) ≡ b
   own-written f b o e = read-written f b e ∙ o
 

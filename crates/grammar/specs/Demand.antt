@@ -1,5 +1,5 @@
--- Demand 2 on a check: a file in which each record stands as it is written is accepted exactly if some list of statements, laid out by the rules, gives
--- those bytes; the counts are that list's. Any other file is answered as the file with each record as it is written.
+-- Demand 2 on a check: a file in which each record stands as the writer writes it is accepted exactly if some list of statements, laid out by the rules, gives
+-- those bytes; the counts are that list's. Any other file is answered as the file with each record as the writer writes it.
 use mathlib.Core.Path.{_≡_}
 use mathlib.Core.List.{List}
 use Prim.Native.Nat.{ℕ}

@@ -16,7 +16,7 @@ use Rattle.grammar.specs.Rules.{Mode, outOfPlace, differs, secondMmo, mi
 use Rattle.grammar.specs.Since.{sinceOpening, inside, outOfPlaceAfter, differsAfter, secondMmoAfter, misdatedAfter, unsummedAfter, tooLongAfter, tally}
 use Rattle.grammar.specs.Statements.{Statement, Valid, recordsOf, allRecords, back}
 
--- A record's bytes: their number, the values they hold, the bytes of values, the form in which bytes are written again, the values that bytes can hold,
+-- A record's bytes: their number, the values they hold, the bytes of values, the form in which the writer writes such bytes, the values that bytes can hold,
 -- and the rules 6, 8 and 9.
 pub record Coding : Type 1 where
   pub size : ℕ
@@ -64,11 +64,11 @@ module _ (C : Coding) where
   abbrev pub pieces : Form → List ℕ → List (List ℕ)
   pieces f b = piecesOf (C .size) f b
 
-  -- a piece with its record as it is written, and its line end as it stands
+  -- a piece with its record as the writer writes it, and its line end as it stands
   abbrev pub canonPiece : List ℕ → List ℕ
   canonPiece p = C .canon (take (C .size) p) ++ drop (C .size) p
 
-  -- a file with each record as it is written: line ends, and what is left over behind the last piece, as they stand
+  -- a file with each record as the writer writes it: line ends, and what is left over behind the last piece, as they stand
   unfoldable pub canonical : Form → List ℕ → List ℕ
   canonical f b = flat (map canonPiece (pieces f b)) ++ drop (countOf (C .size) f b * widthOf (C .size) f) b
 
@@ -84,7 +84,7 @@ module _ (C : Coding) where
     pub layout : layoutOf f ss ≡ b
     pub few : length (allRecords (C .edition) ss) ≤ C .edition .mostInFile
 
-  -- the same, with each record of b as it is written
+  -- the same, with each record of b as the writer writes it
   pub record Reads (f : Form) (b : List ℕ) (ss : List Statement) : Type 0 where
     pub line : unknownEnd f ≡ false
     pub valid : All (Valid (C .edition)) ss

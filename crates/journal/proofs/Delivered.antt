@@ -11,10 +11,10 @@ use Rattle.framing.specs.Files.{All}
 use Rattle.grammar.specs.Answer as G
 use Rattle.grammar.specs.Answer.{Answer, accepted}
 use Rattle.grammar.specs.Statements.{Statement}
-use Rattle.grammar.specs.Files.{Reads, Writable, statementsOf, checkOf}
+use Rattle.grammar.specs.Files.{canonical, Reads, Writable, statementsOf, checkOf}
 use Rattle.grammar.specs.Parts.{nothing}
 use Rattle.records.specs.July.{recordSize, july}
-use Rattle.records.proofs.Theorems.{reads, part-reads}
+use Rattle.records.proofs.Theorems.{reads, part-reads, check-canonical, statements-canonical}
 use Rattle.bodies.proofs.Single.{reads-writable}
 use Rattle.entries.specs.Entries.{tableSize}
 use Rattle.journal_layout.specs.Layout.{mostLines, isLength, linesOf, entriesOf, bodiesOf, layoutOf, Journal, openedOf}
@@ -31,6 +31,15 @@ file-writable {f} {b} {ss} r = each ss (λ i h. reads-writable (part-reads r i h
     each : (ts : List Statement) → ((i : ℕ) → i < length ts → Writable july (getD ts i nothing)) → All (Writable july) ts
     each [] p = tt
     each (t ∷ ts) p = (p 0 (omega arith), each ts (λ i h. p (suc i) (omega arith)))
+
+-- EITHER ZERO: a file, and the same with each record as the writer writes it, get the same answer and leave the same journal, whatever is lent
+pub outcome-canonical : (j : List ℕ) (f : Form) (b : List ℕ) → outcomeOf j f (canonical july f b) ≡ outcomeOf j f b
+unfolding outcomeOf
+outcome-canonical j f b = rw (check-canonical f b, statements-canonical f b)
+
+pub content-canonical : (j : List ℕ) (f : Form) (b : List ℕ) → contentOf j f (canonical july f b) ≡ contentOf j f b
+unfolding contentOf
+content-canonical j f b = ap (contentBy j) (outcome-canonical j f b)
 
 -- a journal's lines
 pub lines-are : {j : List ℕ} {ss : List Statement} (g : Journal j ss) → linesIn j ≡ g .lines

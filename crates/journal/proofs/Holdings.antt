@@ -14,7 +14,7 @@ use Rattle.grammar.specs.Files.{Reads}
 use Rattle.grammar.specs.Parts.{nothing}
 use Rattle.records.specs.July.{recordSize, july}
 use Rattle.contents.specs.Heads.{recordAtOf}
-use Rattle.bodies.specs.Bodies.{plain}
+use Rattle.bodies.specs.Bodies.{plain, bodyOf}
 use Rattle.bodies.proofs.Single.{body-reads}
 use Rattle.entries.specs.Entries.{tableSize, bodyAt, entryIn}
 use Rattle.journal_layout.specs.declared.Usage.the-variants as U
@@ -77,13 +77,14 @@ module _ (j : List ℕ) (h : soundIn j ≡ true) where
   unfolding holdingOf
   sound-held = rw h
 
-  -- the body of entry e is a file of exactly statement e
-  pub sound-reads : (e : ℕ) → 0 < e → e ≤ length ss → Reads july plain (bodyIn j e) (getD ss (e - 1) nothing ∷ [])
+  -- the body of entry e is that of statement e
+  pub sound-body : (e : ℕ) → 0 < e → e ≤ length ss → bodyIn j e ≡ bodyOf (getD ss (e - 1) nothing)
   unfolding bodyIn
-  sound-reads e p q =
-      let i : e - 1 < length ss = omega arith in
-      let g = journal-held journal .holding in
-      rw (ne-eqb e 0 (λ z. omega arith), there-body g (e - 1) i) (body-reads (there-alone g (e - 1) i))
+  sound-body e p q = rw (ne-eqb e 0 (λ z. omega arith)) (there-body (journal-held journal .holding) (e - 1) (omega arith))
+
+  -- and a file of exactly it
+  pub sound-reads : (e : ℕ) → 0 < e → e ≤ length ss → Reads july plain (bodyIn j e) (getD ss (e - 1) nothing ∷ [])
+  sound-reads e p q = rw (sound-body e p q) (body-reads (there-alone (journal-held journal .holding) (e - 1) (omega arith)))
 
   -- its account is the statement's
   pub sound-account : (x : List ℕ) (e : ℕ) → 0 < e → e ≤ length ss

@@ -1,24 +1,23 @@
 -- The promises are kept.
-use mathlib.Core.Path.{_≡_, refl, sym, ap, _∙_}
-use mathlib.Core.Bool.{Bool, true}
+use mathlib.Core.Path.{_≡_, _∙_}
+use mathlib.Core.Bool.{true}
 use mathlib.Core.List.{List}
 use Prim.Native.Nat.{ℕ, _-_, _<_, _≤_}
 use native.Mathlib.Omega.{arith}
 use lib.ListN.{length, getD}
 use borrow.Author.Tests.{ne-eqb, lt-ltb, le-ltb}
 use Rattle.framing.specs.declared.Form.{Form}
-use Rattle.grammar.specs.Statements.{Statement}
 use Rattle.grammar.specs.Parts.{nothing}
 use Rattle.readers.specs.declared.Place.the-variants as P
 use Rattle.bodies.specs.Bodies.{bodyOf}
 use Rattle.journal_layout.specs.Test.{soundIn, heldOf, entryPlaceOf, entryBodyOf}
 use Rattle.journal_layout.proofs.Exact.{journal-sound, journal-list, sound-journal}
-use Rattle.journal.specs.declared.Delivery.the-variants.{Done, Refused}
-use Rattle.journal.specs.Delivery.{Outcome, delivered, refused, outcomeOf, contentOf}
+use Rattle.journal.specs.declared.Delivery.the-variants.{Refused}
+use Rattle.journal.specs.Delivery.{Outcome, delivered, refused, outcomeOf}
 use Rattle.journal.specs.Answers.{answerOf}
 use Rattle.journal.specs.Promises.{Promise, Adds}
-use Rattle.journal.proofs.Delivered.{Stored, stored, unchanged}
-use Rattle.journal.proofs.Holdings.{sound-held, sound-reads, sound-account, sound-none}
+use Rattle.journal.proofs.Delivered.{stored, unchanged}
+use Rattle.journal.proofs.Holdings.{sound-held, sound-body, sound-reads, sound-account, sound-none}
 use Rattle.journal.proofs.Series.{answered, journal-summed}
 
 module _ (j : List ℕ) (h : soundIn j ≡ true) where
@@ -46,6 +45,7 @@ module _ (j : List ℕ) (h : soundIn j ≡ true) where
         entry = body-of-entry;
         no-entry = past-the-last;
         held = sound-held j h;
+        body = sound-body j h;
         reads = sound-reads j h;
         account = sound-account j h;
         no-body = sound-none j h;

@@ -41,8 +41,9 @@ pub record Promise (j : List ℕ) (ss : List Statement) : Type 0 where
   -- the body of entry e, from 1, is that of statement e; there is no other
   pub entry : (e : ℕ) → 0 < e → e ≤ length ss → entryBodyOf j e ≡ bodyOf (getD ss (e - 1) nothing)
   pub no-entry : (e : ℕ) → length ss < e → entryPlaceOf j e ≡ P.Refused 25 0
-  -- after one test: how many there are, what the body of entry e reads as, whose it is, and that there is no other
+  -- after one test: how many there are, the body of entry e, what it reads as, whose it is, and that there is no other
   pub held : holdingOf j ≡ Statements (length ss)
+  pub body : (e : ℕ) → 0 < e → e ≤ length ss → bodyIn j e ≡ bodyOf (getD ss (e - 1) nothing)
   pub reads : (e : ℕ) → 0 < e → e ≤ length ss → Reads july plain (bodyIn j e) (getD ss (e - 1) nothing ∷ [])
   pub account : (x : List ℕ) (e : ℕ) → 0 < e → e ≤ length ss
       → ofAccountIn x (bodyIn j e) ≡ pick (eqb (length x) keySize) (sameKey (getD ss (e - 1) nothing .key) (keyFrom x)) false

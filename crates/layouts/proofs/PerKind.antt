@@ -63,16 +63,16 @@ is-amount z v = by (isAmount z) refl
     by false e h = let n : _≡_ {A = ℕ} 0 1 = cc in absurd (omega arith)
 
 -- what does not tell the two zeros of an amount apart does not tell a zone's bytes from their written form
-pub kept : {A : Kind → Type 0} (g : (k : Kind) → List ℕ → A k) → g amount creditZero ≡ g amount debitZero → (k : Kind) (z : List ℕ)
+pub alike : {A : Kind → Type 0} (g : (k : Kind) → List ℕ → A k) → g amount creditZero ≡ g amount debitZero → (k : Kind) (z : List ℕ)
     → g k (asWrittenIn k z) ≡ g k z
-kept g e (mark t) z = refl
-kept g e blanks z = refl
-kept g e (text c) z = refl
-kept g e (either c d) z = refl
-kept g e (byte c) z = refl
-kept g e number z = refl
-kept g e date z = refl
-kept g e amount z = amounts.alike (g amount) e z
+alike g e (mark t) z = refl
+alike g e blanks z = refl
+alike g e (text c) z = refl
+alike g e (either c d) z = refl
+alike g e (byte c) z = refl
+alike g e number z = refl
+alike g e date z = refl
+alike g e amount z = amounts.alike (g amount) e z
 
 -- all kinds but an amount are always written as they stand
 abbrev pub fixed : Kind → Bool
@@ -96,7 +96,7 @@ still number z h = refl
 still date z h = refl
 still amount z h = absurd (false≢true h)
 
--- the bytes of the value of a zone are those that it takes, as they are written
+-- the bytes of the value of a zone are those that it takes, as the writer writes them
 pub put-get : (k : Kind) (w : ℕ) (z : List ℕ) → wide w k ≡ true → length z ≡ w → Right k z → put w k (get k z) ≡ asWrittenIn k z
 put-get (mark t) w z g e r = same-equal t z (r .mark)
 put-get blanks w z g e r = rw (← e) (sym (blanks-are z (r .zone)))
@@ -175,5 +175,5 @@ right-permitted (byte c) w z g r = class-permitted c z (r .zone)
 right-permitted number w z g r = class-permitted digit z (r .zone)
 right-permitted date w z g r = class-permitted digit z (r .zone)
 right-permitted amount w z g r =
-    sym (kept (λ k. all permitted) zeros-permitted amount z)
+    sym (alike (λ k. all permitted) zeros-permitted amount z)
     ∙ rw (← amounts.text-read z (valueIn (amountOf z)) (valued-is z (r .zone))) (amounts.text-permitted (valueIn (amountOf z)))

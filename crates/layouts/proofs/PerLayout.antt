@@ -14,7 +14,7 @@ use Rattle.zones.proofs.Bools.{and-left, and-right, both, conj, and-assoc, and-
 use Rattle.zones.proofs.Every.{every-append, every-both}
 use Rattle.amounts.specs.Amounts.{debitZero, creditZero}
 use Rattle.layouts.specs.Zone.{part, Kind, amount, Zone, zone, El, get, put, asWrittenIn, holds, Ask, nothing, test, passes, asked, runAfter, run, Values, decode, encode, canon, holdsAll, wide, covers, marked, zoned, dated}
-use Rattle.layouts.proofs.PerKind.{Right, kept, fixed, still, zeros-permitted, zeros-zoned, zeros-value, put-get, holds-get, get-put, length-put, right-put, right-permitted}
+use Rattle.layouts.proofs.PerKind.{Right, alike, fixed, still, zeros-permitted, zeros-zoned, zeros-value, put-get, holds-get, get-put, length-put, right-put, right-permitted}
 
 -- a record passes the three rules
 pub record Fits (zs : List Zone) (b : List ℕ) : Type 0 where
@@ -165,7 +165,7 @@ canon-front p q (zone a z k ∷ zs) ys b g l h =
     ∙ (sym (append-assoc (part a z b) (take (q - z) (drop z b)) (canon ys b))
     ∙ rw (s, e, take-add (z + 1 - a) (q - z) (drop p b), drop-drop (z + 1 - a) p b, d))
 
--- THE WRITTEN FORM, of any bytes: the record c has the zones of b as they are written
+-- THE WRITTEN FORM, of any bytes: the record c has the zones of b as the writer writes them
 abbrev pub Rewrites : List Zone → (b c : List ℕ) → Type 0
 Rewrites [] b c = Unit {0}
 Rewrites (zone a z k ∷ zs) b c = (part a z c ≡ asWrittenIn k (part a z b)) × Rewrites zs b c
@@ -186,13 +186,13 @@ canons p n (zone a z k ∷ zs) x b g l m =
     let f = first p n a z k zs g in
     let c = cut-first p n a z k zs b f (omega arith) in
     let y = asWrittenIn k (part a z b) in
-    let w : length y ≡ z + 1 - a = kept (λ k. length) refl k (part a z b) ∙ c .width in
+    let w : length y ≡ z + 1 - a = alike (λ k. length) refl k (part a z b) ∙ c .width in
     let i = canons z n zs (x ++ y) b (f .rest) (omega (arith, length-append x y, f .start, f .some)) m in
     record {
       size = omega (arith, length-append y (canon zs b), i .size, f .start, f .some);
       zones = (part-at p a z x y (canon zs b) l (f .start) w, rw append-assoc at (i .zones));
       bytes = every-both (inClass permitted) y (canon zs b)
-          ∙ (conj (kept (λ k. all permitted) zeros-permitted k (part a z b)) (i .bytes)
+          ∙ (conj (alike (λ k. all permitted) zeros-permitted k (part a z b)) (i .bytes)
           ∙ (sym (every-both (inClass permitted) (part a z b) (drop z b)) ∙ ap (all permitted) (c .joined)));
     }
 
@@ -201,7 +201,7 @@ each-same : (r : Kind → Ask) → passes (r amount) creditZero ≡ passes (r am
     → each r zs c ≡ each r zs b
 each-same r e [] b c s = refl
 each-same r e (zone a z k ∷ zs) b c s =
-    conj (ap (passes (r k)) (s .0) ∙ kept (λ k. passes (r k)) e k (part a z b)) (each-same r e zs b c (s .1))
+    conj (ap (passes (r k)) (s .0) ∙ alike (λ k. passes (r k)) e k (part a z b)) (each-same r e zs b c (s .1))
 
 -- the same as the code asks it
 run-same : (r : Kind → Ask) → passes (r amount) creditZero ≡ passes (r amount) debitZero → (zs : List Zone) (b c : List ℕ) → Rewrites zs b c
@@ -211,9 +211,9 @@ run-same r e zs b c s = run-each r true zs c ∙ (each-same r e zs b c s ∙ sym
 -- nor do the values
 values-same : (zs : List Zone) (b c : List ℕ) → Rewrites zs b c → decode zs c ≡ decode zs b
 values-same [] b c s = refl
-values-same (zone a z k ∷ zs) b c s = ap₂ pair (ap (get k) (s .0) ∙ kept get zeros-value k (part a z b)) (values-same zs b c (s .1))
+values-same (zone a z k ∷ zs) b c s = ap₂ pair (ap (get k) (s .0) ∙ alike get zeros-value k (part a z b)) (values-same zs b c (s .1))
 
--- a record of n bytes, and the same as it is written
+-- a record of n bytes, and the same as the writer writes it
 pub record Rewritten (n : ℕ) (zs : List Zone) (b : List ℕ) : Type 0 where
   pub size : length (canon zs b) ≡ n
   pub zones : Rewrites zs b (canon zs b)

@@ -82,7 +82,7 @@ put w number v = digitsOf w v
 put w date v = dateText v
 put w amount v = amountText v
 
--- a zone's bytes as they are written: only an amount can have stood otherwise
+-- a zone's bytes as the writer writes them: only an amount can have stood otherwise
 abbrev pub asWrittenIn : Kind → List ℕ → List ℕ
 asWrittenIn (mark t) z = z
 asWrittenIn blanks z = z
@@ -171,7 +171,7 @@ abbrev pub encode : (zs : List Zone) → Values zs → List ℕ
 encode [] v = []
 encode (zone a z k ∷ zs) v = put (z + 1 - a) k (v .0) ++ encode zs (v .1)
 
--- a record's bytes as they are written, zone by zone
+-- a record's bytes as the writer writes them, zone by zone
 abbrev pub canon : List Zone → List ℕ → List ℕ
 canon [] b = []
 canon (zone a z k ∷ zs) b = asWrittenIn k (part a z b) ++ canon zs b

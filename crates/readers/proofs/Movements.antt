@@ -12,7 +12,7 @@ use Rattle.zones.specs.Choice.{pick}
 use Rattle.framing.specs.declared.Form.{Form}
 use Rattle.framing.specs.Files.{All, widthOf}
 use Rattle.grammar.specs.declared.Key.{Key}
-use Rattle.grammar.specs.Record.{Rec, movement, closing, isMovement, isComplement}
+use Rattle.grammar.specs.Record.{Rec, closing, isMovement, isComplement}
 use Rattle.grammar.specs.Statements.{Movement, Statement, sizes, allRecords}
 use Rattle.grammar.specs.Files.{Fine, recOf, pieces, Reads}
 use Rattle.grammar.specs.Parts.{recordsBefore, nothing}

@@ -18,7 +18,7 @@ use Rattle.grammar.proofs.Rows.{addsThen}
 use Rattle.grammar.proofs.Parts.{all-drop, map-drop}
 use Rattle.grammar.proofs.Canonical.{wide-all}
 use Rattle.grammar.proofs.Exact.{reads-flat, reads-records, reads-fine}
-use Rattle.records.specs.July.{recordSize, Holds, july, july2004}
+use Rattle.records.specs.July.{recordSize, july, july2004}
 use Rattle.records.proofs.Lawful.{july-lawful}
 
 -- the records behind some 05
@@ -46,10 +46,6 @@ pieces-flat : (w : ℕ) (ps : List (List ℕ)) → 0 < w → Wide w ps → chunk
 pieces-flat w ps h x = rw (length-flat w ps x, mul-div-cancel (length ps) h) (chunks-flat w ps x)
 
 module _ {f : Form} {b : List ℕ} {ss : List Statement} (r : Reads july f b ss) where
-  -- what the last records can hold
-  pub ok-from : (n : ℕ) → All Holds (drop n (allRecords july2004 ss))
-  ok-from n = all-drop Holds n (allRecords july2004 ss) (r .ok)
-
   -- the bytes from record n on, from 0, are those of the records from it on
   pub from-record : (n : ℕ) → drop (n * widthOf recordSize f) b ≡ flat (drop n (pieces july f b))
   from-record n =

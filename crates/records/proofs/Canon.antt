@@ -1,4 +1,4 @@
--- A record as it is written: where it differs from what stood, and that no rule and no value tells the two apart.
+-- A record as the writer writes it: where it differs from what stood, and that no rule and no value tells the two apart.
 use mathlib.Core.Path.{_≡_, refl, ap, sym, _∙_}
 use mathlib.Core.Bool.{Bool, true, false, not, _&&_, _||_, and-false, false≢true}
 use mathlib.Core.List.{List, [], _∷_, _++_, append-nil, append-assoc}
@@ -60,7 +60,7 @@ module _ (b : List ℕ) (l : length b ≡ recordSize) where
       by true = canon-front 0 recordSize layoutMmo [] b covers-mmo (omega arith) refl ∙ (append-nil (take recordSize b) ∙ take-all recordSize b (omega arith))
       by false = canon-front 0 recordSize layout05 [] b covers05 (omega arith) refl ∙ (append-nil (take recordSize b) ∙ take-all recordSize b (omega arith))
 
-  -- a layout by which b is judged, and by which it is judged as it is written
+  -- a layout by which b is judged, and by which it is judged as the writer writes it
   alike-by : (zs : List Zone) → covers 0 recordSize zs ≡ true → layoutOf b ≡ zs → layoutOf (canon zs b) ≡ zs
       → unknownCode (canon zs b) ≡ unknownCode b → decodeRecord (canon zs b) ≡ decodeRecord b → Alike july (canonRecord b) b
   unfolding canonRecord misfit undated

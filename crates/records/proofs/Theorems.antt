@@ -1,5 +1,5 @@
 -- The theorems of the format at the real records.
-use mathlib.Core.Path.{_≡_, refl, ap}
+use mathlib.Core.Path.{_≡_, refl, ap, sym, _∙_}
 use mathlib.Core.Bool.{true, not}
 use mathlib.Core.Logic.{_↔_}
 use mathlib.Core.List.{List, [], _∷_}
@@ -32,7 +32,7 @@ width-size : (f : Form) → recordSize ≤ widthOf recordSize f
 unfolding widthOf
 width-size f = omega arith
 
--- accepted exactly if there is a list of valid statements whose layout these bytes are, each record as it is written; there is no second; the counts are its
+-- accepted exactly if there is a list of valid statements whose layout these bytes are, each record as the writer writes it; there is no second; the counts are its
 pub exact : (f : Form) (b : List ℕ) → ((c : Counts) × (checkOf july f b ≡ accepted c)) ↔ ((ss : List Statement) × Reads july f b ss)
 exact = G.exact july july-lawful
 
@@ -72,7 +72,7 @@ pub only-reads : (check : Form → List ℕ → Answer) → Demand2 july check �
     → check f b ≡ accepted c → (ss : List Statement) × Reads july f b ss
 only-reads = D.only-reads july-lawful
 
--- a file and the file with each record as it is written have the same answer, refusals included, and the same statements
+-- a file and the file with each record as the writer writes it have the same answer, refusals included, and the same statements
 pub check-canonical : (f : Form) (b : List ℕ) → checkOf july f (canonical july f b) ≡ checkOf july f b
 check-canonical = N.check-canonical july july-lawful
 
@@ -104,6 +104,10 @@ own-file f b = (
       own-record (take recordSize p) (long p (w .0)) (not-true _ (and-left (not (hasDebitZero (take recordSize p))) _ h)),
       from ps (w .1) (and-right (not (hasDebitZero (take recordSize p))) _ h),
     )
+
+-- what some statements give has none
+pub given-own : {f : Form} {b : List ℕ} {ss : List Statement} → Gives july f b ss → noDebitZero (pieces july f b) ≡ true
+given-own {f} {b} g = own-file f b .0 (sym (G.gives-reads july july-lawful g .layout) ∙ g .layout)
 
 -- so a file without a debit zero is accepted exactly if some list of statements gives those bytes
 pub exact-own : (f : Form) (b : List ℕ) → noDebitZero (pieces july f b) ≡ true

@@ -27,9 +27,9 @@ pub worked : answers cases ≡ expected cases
 unfolding every sameBytes valueFrom digitsInto signIndex signOf isDebit magnitude amountOf signedText yearOf daysIn exists dayOf dateOf dateText endOf widthOf chunks sameKey judgeOf scan outOfPlace differs misdated unsummed secondMmo tooLong checkOf unknownCode isMmo layoutOf misfit undated decodeRecord writeMovement repeats
 worked = refl
 
--- the empty account, one of them, is accepted
+-- the first of them, an empty account, is accepted
 nil-accepted : checkOf july (record { «line_end» = 1 }) nil ≡ counts 1 0 0
-nil-accepted = ap (λ l. getD l 16 (refused 0 0)) worked
+nil-accepted = ap (λ l. getD l 0 (refused 0 0)) worked
 
 -- and has a debit zero
 nil-debit : noDebitZero (pieces july (record { «line_end» = 1 }) nil) ≡ false

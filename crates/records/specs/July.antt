@@ -177,11 +177,11 @@ Holds (movement k p) = holdsAll layout04 (movementValues k p) ≡ true
 Holds (complement e t) = HoldsComplement e t
 Holds (closing k d a) = holdsAll layout07 (balanceValues "07" k d a) ≡ true
 
--- A record as it is written, by its layout: the amount of an 01, 04 or 07 with `{` for a debit zero; a 05 as it stands.
+-- A record as the writer writes it, by its layout: the amount of an 01, 04 or 07 with `{` for a debit zero; a 05 as it stands.
 unfoldable pub canonRecord : List ℕ → List ℕ
 canonRecord b = canon (layoutOf b) b
 
--- a debit zero stands where an 01, 04 or 07 has its amount
+-- A debit zero stands where an 01, 04 or 07 has its amount: in 91-104 of any record but a 05.
 abbrev pub hasDebitZero : List ℕ → Bool
 hasDebitZero b = not (isCode "05" b) && sameBytes (part 91 104 b) debitZero
 

@@ -39,18 +39,25 @@ elsewhere = "0712345    00011EUR2 0001234567A  280225                           
 abbrev pub lowercase : String
 lowercase = "0712345    00010eur2 0001234567A  280225                                                  0000000012083C                "
 
--- an empty account's balances, as two banks write them; a credit of 7; a 05 with the same bytes in its information
+-- an empty account's balances, as two banks write them; a movement of nothing, with the same bytes in its label and its reference; a credit of 7;
+-- a 05 with these bytes in its information, and one whose MMO amount they are
 abbrev pub nil-old : String
 nil-old = "0112345    00010EUR2 0001234567A  310125                                                  0000000000000}                "
 
 abbrev pub nil-new : String
 nil-new = "0712345    00010EUR2 0001234567A  280225                                                  0000000000000}                "
 
+abbrev pub nothing : String
+nothing = "0412345    00010EUR2 0001234567A05050225  0602250000000000000}                   0000000000000000000000}0000000000000}  "
+
 abbrev pub seven : String
 seven = "0412345    00010EUR2 0001234567A05050225  060225                                 0000000000000000000000G                "
 
 abbrev pub note : String
 note = "0512345    00010EUR2 0001234567A05050225     LIB                                          0000000000000}                "
+
+abbrev pub mmo-nil : String
+mmo-nil = "0512345    00010EUR2 0001234567A08070225     MMOUSD20000000000000}                                                      "
 
 -- records end to end, each with what stands after it
 abbrev pub file : List ℕ → List String → List ℕ
@@ -66,10 +73,6 @@ lf rs = file (10 ∷ []) rs
 abbrev pub crlf : List String → List ℕ
 crlf rs = file (13 ∷ 10 ∷ []) rs
 
--- an empty account
-abbrev pub nil : List ℕ
-nil = lf (nil-old ∷ nil-new ∷ [])
-
 pub record Case : Type 0 where
   pub line-end : ℕ
   pub bytes : List ℕ
@@ -81,9 +84,14 @@ case n b a = record { line-end = n; bytes = b; answer = a }
 abbrev pub counts : ℕ → ℕ → ℕ → Answer
 counts s m c = accepted (record { statements = s; movements = m; complements = c })
 
+-- an empty account
+abbrev pub nil : List ℕ
+nil = lf (nil-old ∷ nil-new ∷ [])
+
 abbrev pub cases : List Case
 cases =
-    case 0 [] (counts 0 0 0)
+    case 1 nil (counts 1 0 0)
+    ∷ case 0 [] (counts 0 0 0)
     ∷ case 0 (plain (old ∷ receipt ∷ debit ∷ new ∷ [])) (counts 1 2 0)
     ∷ case 1 (lf (old ∷ receipt ∷ debit ∷ mmo ∷ new ∷ [])) (counts 1 2 1)
     ∷ case 2 (crlf (old ∷ receipt ∷ debit ∷ new ∷ [])) (counts 1 2 0)
@@ -99,8 +107,9 @@ cases =
     ∷ case 0 (plain (old ∷ receipt ∷ debit ∷ early ∷ [])) (refused 12 4)
     ∷ case 0 (plain (old ∷ receipt ∷ debit ∷ unsummed ∷ [])) (refused 13 4)
     ∷ case 0 (plain (old ∷ receipt ∷ [])) (refused 14 2)
-    ∷ case 1 nil (counts 1 0 0)
+    ∷ case 0 (plain (nil-old ∷ nothing ∷ note ∷ nil-new ∷ [])) (counts 1 1 1)
     ∷ case 0 (plain (nil-old ∷ seven ∷ nil-new ∷ [])) (refused 13 3)
+    ∷ case 0 (plain (old ∷ receipt ∷ debit ∷ mmo-nil ∷ new ∷ [])) (refused 8 4)
     ∷ []
 
 -- records and what they are written as
@@ -109,7 +118,7 @@ written =
     (nil-old, "0112345    00010EUR2 0001234567A  310125                                                  0000000000000{                ")
     ∷ (nil-new, "0712345    00010EUR2 0001234567A  280225                                                  0000000000000{                ")
     ∷ (old, old)
-    ∷ (seven, seven)
+    ∷ (nothing, "0412345    00010EUR2 0001234567A05050225  0602250000000000000}                   0000000000000000000000{0000000000000}  ")
     ∷ (note, note)
     ∷ []
 

@@ -1,4 +1,4 @@
--- What the writer promises: when it refuses with 19, what a file of its bytes reads as, and that reading and writing give the same records back.
+-- What the writer promises: when it refuses with 19, what a file of its bytes reads as, and that reading and writing give the records back, with `{` for a debit zero.
 use mathlib.Core.Path.{_≡_, refl, sym, ap, ap₂, _∙_}
 use mathlib.Core.Logic.{_↔_}
 use mathlib.Core.Bool.{Bool, true, false}
@@ -13,7 +13,7 @@ use Rattle.framing.specs.declared.Form.{Form}
 use Rattle.framing.specs.Files.{All, fileOf, endOf}
 use Rattle.grammar.specs.Record.{Rec}
 use Rattle.grammar.specs.Statements.{Statement, recordsOfMovements, recordsOf, allRecords}
-use Rattle.grammar.specs.Files.{pieces, canonical, layoutOf, Reads, Writable}
+use Rattle.grammar.specs.Files.{pieces, canonical, layoutOf, Gives, Reads, Writable}
 use Rattle.grammar.specs.Parts.{nothing, partOf}
 use Rattle.grammar.proofs.Seam.{piecesFor, bodies-pieces}
 use Rattle.grammar.proofs.Canonical.{pieces-canonical}
@@ -44,19 +44,26 @@ module _ (h : Head) (rows : List Movement) (cs : List ℕ) where
   abbrev s : Statement
   s = statementFrom h rows cs
 
-  -- WHAT IS WRITTEN IS ACCEPTED and reads as the statement of these values
-  pub written-reads : Carried h rows cs → Reads july plain (writtenOf h rows cs) (s ∷ [])
+  -- WHAT IS WRITTEN is what the statement of these values gives, without line ends
+  pub written-given : Carried h rows cs → Gives july plain (writtenOf h rows cs) (s ∷ [])
   unfolding writtenOf layoutOf
-  written-reads c =
+  written-given c =
       let w = c .writable in
-      gives-reads july july-lawful
-      (record {
+      record {
         line = refl;
         valid = (w .valid, tt);
         ok = rw (one-records july2004 s) (w .ok);
         layout = rw (one-records july2004 s) (plain-file (recordsOf july2004 s));
         few = rw (one-records july2004 s) (w .few);
-      })
+      }
+
+  -- so it has no debit zero
+  pub written-own : Carried h rows cs → noDebitZero (pieces july plain (writtenOf h rows cs)) ≡ true
+  written-own c = records.given-own (written-given c)
+
+  -- it is accepted and reads as that statement
+  pub written-reads : Carried h rows cs → Reads july plain (writtenOf h rows cs) (s ∷ [])
+  written-reads c = gives-reads july july-lawful (written-given c)
 
   -- and as exactly these values
   pub carried-read : Carried h rows cs → ReadAs h rows cs
@@ -97,7 +104,7 @@ module _ {f : Form} {b : List ℕ} {ss : List Statement} (r : Reads july f b ss)
   pub read-carried : Carried (headFrom t) (rowsOf (t .movements)) cs
   read-carried = record { whole = texts-counted (t .key) (t .movements) held; writable = rw statement-back writable }
 
-  -- THE ROUND TRIP: head, rows and complements read of statement j, from 0, are written as its records, each as it is written
+  -- THE ROUND TRIP: head, rows and complements read of statement j, from 0, are written as its records, each as the writer writes it
   pub read-written : writtenOf (headFrom t) (rowsOf (t .movements)) cs ≡ recordsIn f (canonical july f (partOf july f b (j + 1)))
   unfolding writtenOf recordsIn
   read-written =
