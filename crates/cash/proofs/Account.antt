@@ -14,6 +14,7 @@ use Rattle.grammar.specs.Record.{Rec, complement, sameKey}
 use Rattle.grammar.specs.Statements.{Movement, Statement, plus, sizes, recordsOfMovement, recordsOfMovements, recordsOf}
 use Rattle.grammar.specs.Files.{Writable}
 use Rattle.records.specs.July.{july, july2004, Holds}
+use Rattle.records.proofs.Zones.{opening-small, closing-small, movement-small, movement-day}
 use Rattle.journal_layout.specs.Chains.{ofAccount}
 use Rattle.journal_layout.specs.Layout.{linesOf}
 use Rattle.journal.specs.Arrivals.{movementsIn, lastBalance}
@@ -23,7 +24,6 @@ use Rattle.cash.specs.Value.{total, valueAt, valued, movementsOf}
 use Rattle.cash.proofs.Tied.{Small, Tied}
 use Rattle.cash.proofs.Bounds.{fits, balance-bound}
 use Rattle.cash.proofs.Rows.{last-amount}
-use Rattle.cash.proofs.Zones.{opening-small, closing-small, movement-small, movement-day}
 
 -- what is taken of a movement that a record holds
 record Sized (m : Movement) : Type 0 where

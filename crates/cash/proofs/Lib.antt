@@ -5,7 +5,6 @@ pub mod Bounds
 pub mod Rows
 pub mod Tables
 pub mod Spans
-pub mod Zones
 pub mod Account
 pub mod Loops
 pub mod Filling

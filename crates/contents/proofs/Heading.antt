@@ -17,7 +17,7 @@ use Rattle.grammar.specs.declared.Key.{Key}
 use Rattle.grammar.specs.Answer.{Answer, accepted, refused}
 use Rattle.grammar.specs.Record.{opening, closing}
 use Rattle.grammar.specs.Statements.{Statement, sizes, allRecords, movementsOf}
-use Rattle.grammar.specs.Files.{statementsOf, checkOf}
+use Rattle.grammar.specs.Files.{Reads, statementsOf, checkOf}
 use Rattle.grammar.specs.Parts.{recordsBefore, nothing}
 use Rattle.grammar.proofs.Parts.{drop-before}
 use Rattle.grammar.proofs.Rows.{all-cons}
@@ -87,6 +87,21 @@ unfolding headAt keyAtOf lookOf
 head-held s o c l m x y =
     rw (eq-eqb (length o) recordSize l, eq-eqb (length c) recordSize m, x .key, x .day, x .amount, y .day, y .amount)
 
+-- at the place of statement j, from 0, stands its 01
+pub opening-at : {f : Form} {b : List ℕ} {ss : List Statement} → Reads july f b ss → (j : ℕ) → j < length ss
+    → let s = getD ss j nothing in HoldsAt b (recordsBefore j ss * widthOf recordSize f) (opening (s .key) (s .old-date) (s .old-balance))
+opening-at {f} {b} {ss} r j h =
+    let s = getD ss j nothing in
+    let q : drop (recordsBefore j ss) (allRecords july2004 ss) ≡ allRecords july2004 (s ∷ drop (suc j) ss) =
+    drop-before july2004 j ss ∙ rw (drop-cons ss j nothing h) in
+    record-there r (recordsBefore j ss) (q ∙ all-cons july2004 s (drop (suc j) ss))
+
+-- and its old date
+pub old-date-at : {f : Form} {b : List ℕ} {ss : List Statement} → Reads july f b ss → (j : ℕ) → j < length ss
+    → lookOf (recordAtOf b (recordsBefore j ss * widthOf recordSize f)) .day ≡ getD ss j nothing .old-date
+unfolding lookOf
+old-date-at r j h = let o = opening-at r j h in rw (eq-eqb _ recordSize (o .whole)) (opened _ (o .values) .day)
+
 module _ (f : Form) (b : List ℕ) (k : ℕ) {x n : ℕ} (e : At x n ≡ placeOf f b k) where
   abbrev ss : List Statement
   ss = statementsOf july f b
@@ -105,11 +120,7 @@ module _ (f : Form) (b : List ℕ) (k : ℕ) {x n : ℕ} (e : At x n ≡ placeOf
 
   -- its first record is its 01
   first-there : HoldsAt b x (opening (s .key) (s .old-date) (s .old-balance))
-  first-there =
-      let g = found f b k e in
-      let q : drop (recordsBefore (k - 1) ss) (allRecords july2004 ss) ≡ allRecords july2004 (s ∷ drop (suc (k - 1)) ss) =
-      drop-before july2004 (k - 1) ss ∙ rw (drop-cons ss (k - 1) nothing in-list) in
-      rw (g .first) (record-there (reads f b (g .yes)) (recordsBefore (k - 1) ss) (q ∙ all-cons july2004 s (drop (suc (k - 1)) ss)))
+  first-there = let g = found f b k e in rw (g .first) (opening-at (reads f b (g .yes)) (k - 1) in-list)
 
   -- its last record is its 07
   last-place : x + n - w ≡ before (reads f b (found f b k e .yes)) (k - 1) in-list (length (s .movements)) * w

@@ -1,4 +1,6 @@
 pub mod Records
 pub mod Heading
 pub mod Moving
+pub mod Begun
+pub mod Passing
 pub mod One

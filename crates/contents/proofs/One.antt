@@ -3,7 +3,8 @@ use mathlib.Core.Path.{_≡_, sym, _∙_}
 use mathlib.Core.List.{List}
 use Prim.Native.Nat.{ℕ}
 use Rattle.framing.specs.declared.Form.{Form}
-use Rattle.contents.specs.Answers.{RecordAt, MovementsIn, HeadOf, MovementOf, ComplementOf}
+use Rattle.contents.specs.Answers.{RecordAt, MovementsIn, HeadOf, MovementOf, ComplementOf, EarliestIn}
+use Rattle.contents.specs.declared.Beginning.{Beginning}
 use Rattle.contents.specs.declared.HeadAnswer.{HeadAnswer}
 use Rattle.contents.specs.declared.MovementAnswer.{MovementAnswer}
 use Rattle.contents.specs.declared.ComplementAnswer.{ComplementAnswer}
@@ -22,3 +23,6 @@ one-movement-of g h = g .answer ∙ sym (h .answer)
 
 pub one-complement-of : {f : Form} {b : List ℕ} {k i j : ℕ} {r q : ComplementAnswer} → ComplementOf f b k i j r → ComplementOf f b k i j q → r ≡ q
 one-complement-of g h = g .answer ∙ sym (h .answer)
+
+pub one-earliest : {f : Form} {b : List ℕ} {r q : Beginning} → EarliestIn f b r → EarliestIn f b q → r ≡ q
+one-earliest g h = g .answer ∙ sym (h .answer)

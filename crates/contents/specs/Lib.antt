@@ -1,3 +1,4 @@
 pub mod Heads
 pub mod Movements
+pub mod Earliest
 pub mod Answers

@@ -1,12 +1,13 @@
-// What a statement of a file holds, by value: its head, one of its movements, one of their complements.
+// What a statement of a file holds, by value: its head, one of its movements, one of their complements. On what day a file begins.
 ghost use mathlib.Core.Path.{_≡_};
-ghost use mathlib.Core.List.{_∷_, []};
+ghost use mathlib.Core.List.{List, _∷_, []};
 ghost use Rattle.grammar.specs.Statements.{Statement};
 ghost use Rattle.grammar.specs.Files.{Reads};
 ghost use Rattle.records.specs.July.{july};
 ghost use Rattle.contents.specs.Heads.{noHead, headAt};
 ghost use Rattle.contents.specs.Movements.{Single, stepsAfter, movementPlace, movementAmong, complementAmong, refusedComplement};
-ghost use Rattle.contents.specs.Answers.{RecordAt, MovementsIn, HeadOf, MovementOf, ComplementOf};
+ghost use Rattle.contents.specs.Earliest.{earlierOf, earliestOf};
+ghost use Rattle.contents.specs.Answers.{RecordAt, MovementsIn, HeadOf, MovementOf, ComplementOf, EarliestIn};
 use fields::Movement;
 use framing::Form;
 use grammar::Key;
@@ -43,6 +44,12 @@ pub struct ComplementAnswer {
     pub number: u64,
     pub record: u64,
     pub text: [u8; 73],
+}
+
+// The earliest old balance date of a file's statements, 0 where it has none, or the number and the record of a refusal.
+pub enum Beginning {
+    On { day: u32 },
+    Refused { number: u64, record: u64 },
 }
 
 // The 120 bytes at a place. None where there are not so many.
@@ -243,5 +250,45 @@ pub fn complement_of(form: Form, file: &[u8], k: u64, i: u64, j: u64) -> Complem
             complement_in(form, &file[first..end], i, j)
         }
         Place::Refused { number, record } => no_complement(number, record),
+    }
+}
+
+// The earlier of a day that is kept and another. 0 is none kept yet.
+fn earlier(kept: u32, day: u32) -> u32
+    ensures { λ r. ⌜ r ≡ earlierOf kept day ⌝ }
+{
+    if (kept == 0) | (day < kept) {
+        return day;
+    }
+    kept
+}
+
+// The earliest old date, from statement to statement by the cursor, with no check of its own.
+fn earliest_day(form: Form, file: &[u8]) -> u32
+    ensures { λ d. ⌜ ((ss : List Statement) → Reads july form (now (file .entry)) ss → d ≡ earliestOf ss) ⌝ }
+{
+    let mut day: u32 = 0;
+    let mut at: usize = 0;
+    while at < file.len() {
+        let opening = records::look_at(record_at(file, at));
+        day = earlier(day, opening.day);
+        at = readers::statement_end(form, file, at);
+    }
+    day
+}
+
+// On what day a file begins. The whole file is judged first.
+pub fn earliest(form: Form, file: &[u8]) -> Beginning
+    ensures { λ r. ⌜ EarliestIn form (now (file .entry)) r ⌝ }
+{
+    match statements::check(form, file) {
+        Checked::Accepted {
+            statements: _,
+            movements: _,
+            complements: _,
+        } => Beginning::On {
+            day: earliest_day(form, file),
+        },
+        Checked::Refused { number, record } => Beginning::Refused { number, record },
     }
 }

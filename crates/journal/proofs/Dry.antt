@@ -25,6 +25,7 @@ use Rattle.statements.specs.declared.Checked.the-variants as C
 use Rattle.statements.specs.Answers.{checkedOf}
 use Rattle.readers.specs.Places.{endAfter}
 use Rattle.readers.proofs.Rows.{before-next}
+use Rattle.readers.proofs.Turns.{last-turn}
 use Rattle.contents.specs.Heads.{recordAtOf}
 use Rattle.bodies.proofs.Single.{reads-writable}
 use Rattle.entries.specs.Entries.{mostEntries, tableSize, lineAt}
@@ -45,7 +46,7 @@ use Rattle.journal.specs.Plans.{partsFrom, spansFrom, Inside, judgedAll,
 use Rattle.journal.proofs.Runs.{hold-held, store-new}
 use Rattle.journal.proofs.Values.{verdict-value, is-hold, is-store, is-refuse, has-room}
 use Rattle.journal.proofs.Written.{layout-all}
-use Rattle.journal.proofs.Turning.{file-small, Turn, turn, last-turn}
+use Rattle.journal.proofs.Turning.{file-small, Turn, turn}
 
 -- ---- one part more
 

@@ -1,13 +1,11 @@
 -- One statement of an accepted file after another: its place, its part, and the place after it.
-use mathlib.Core.Path.{_≡_, refl, ap, _∙_}
-use mathlib.Core.Bool.{Bool, true, false}
+use mathlib.Core.Path.{_≡_, ap, _∙_}
 use mathlib.Core.List.{List, [], _∷_}
 use Prim.Native.Nat.{ℕ, _+_, _-_, _*_, _/_, _<_, _≤_}
 use native.Mathlib.Nat.{add-mul, mul-div-cancel, mul-le-mul-right}
 use native.Mathlib.Omega.{arith}
-use lib.Dec.{eqb}
 use lib.ListN.{length, take, drop, getD}
-use borrow.Author.Tests.{ltb-false, eqb-true, eqb-false}
+use borrow.Author.Tests.{ltb-false}
 use Rattle.framing.specs.declared.Form.{Form}
 use Rattle.framing.specs.Files.{lineEnd, widthOf}
 use Rattle.grammar.specs.Statements.{Statement, allRecords}
@@ -21,7 +19,7 @@ use Rattle.readers.specs.Places.{endAfter}
 use Rattle.readers.proofs.Cursor.{cursor}
 use Rattle.readers.proofs.Placed.{before-inside}
 use Rattle.readers.proofs.Rows.{some, before-next}
-use Rattle.readers.proofs.Turns.{before-end, after-last, between}
+use Rattle.readers.proofs.Turns.{between, one-more}
 
 -- an accepted file is not long
 pub file-small : {f : Form} {b : List ℕ} {ss : List Statement} → Reads july f b ss → length b ≤ 2440000
@@ -44,24 +42,12 @@ pub record Turn (f : Form) (b : List ℕ) (ss : List Statement) (i at end : ℕ)
   pub behind : at / widthOf recordSize f ≡ recordsBefore i ss
 
 module _ {f : Form} {b : List ℕ} {ss : List Statement} (r : Reads july f b ss) where
-  -- the place of statement i
-  abbrev pub At : ℕ → ℕ → Type 0
-  At i at = at ≡ recordsBefore i ss * widthOf recordSize f
-
-  -- before the end of the file there is one more
-  one-more : {i at : ℕ} → i ≤ length ss → At i at → at < length b → i < length ss
-  one-more {i} {at} u p l = by (eqb i (length ss)) refl
-    where
-      by : (t : Bool) → eqb i (length ss) ≡ t → i < length ss
-      by true q = absurd (let z : at ≡ length b = p ∙ ap (λ (m : ℕ). recordsBefore m ss * widthOf recordSize f) (eqb-true i (length ss) q) ∙ after-last r in omega arith)
-      by false q = let n = eqb-false i (length ss) q in omega arith
-
-  pub turn : {i at end : ℕ} → i ≤ length ss → At i at → at < length b → end ≡ endAfter f b at → Turn f b ss i at end
+  pub turn : {i at end : ℕ} → i ≤ length ss → at ≡ recordsBefore i ss * widthOf recordSize f → at < length b → end ≡ endAfter f b at → Turn f b ss i at end
   turn {i} {at} {end} u p l e =
       let w = widthOf recordSize f in
       let m = recordsBefore i ss in
       let n = sizeOf (getD ss i nothing) in
-      let h : i < length ss = one-more u p l in
+      let h : i < length ss = one-more r u p l in
       let c : end ≡ recordsBefore (i + 1) ss * w = e ∙ ap (endAfter f b) p ∙ cursor r i h in
       let d : recordsBefore (i + 1) ss * w ≡ m * w + n * w = rw (before-next i ss h) (add-mul m n w) in
       let k : 2 * w ≤ n * w = mul-le-mul-right w (omega arith) in
@@ -76,11 +62,3 @@ module _ {f : Form} {b : List ℕ} {ss : List Statement} (r : Reads july f b ss)
         size = rw z (mul-div-cancel n (some f));
         behind = rw p (mul-div-cancel m (some f));
       }
-
-  -- the end of the file is the end of its statements
-  pub last-turn : {i at : ℕ} → i ≤ length ss → At i at → length b ≤ at → i ≡ length ss
-  last-turn {i} {at} u p l = by (eqb i (length ss)) refl
-    where
-      by : (t : Bool) → eqb i (length ss) ≡ t → i ≡ length ss
-      by true q = eqb-true i (length ss) q
-      by false q = absurd (let n = eqb-false i (length ss) q in let h = before-end r i (omega arith) in omega arith)

@@ -27,7 +27,7 @@ use Rattle.readers.proofs.Rows.{before-next}
 use Rattle.readers.proofs.Cursor.{cursor}
 
 -- the check's answer in the terms of the definitions
-accepted-of : (a : Answer) {s m c : ℕ} → C.Accepted s m c ≡ checkedOf a → a ≡ accepted (record { statements = s; movements = m; complements = c })
+pub accepted-of : (a : Answer) {s m c : ℕ} → C.Accepted s m c ≡ checkedOf a → a ≡ accepted (record { statements = s; movements = m; complements = c })
 accepted-of (accepted x) {s} {m} {c} e =
     let p : x .statements ≡ s = cc in
     let q : x .movements ≡ m = cc in
@@ -35,7 +35,7 @@ accepted-of (accepted x) {s} {m} {c} e =
     ap accepted (counts-path p q r)
 accepted-of (refused n r) e = absurd (let z : _≡_ {A = ℕ} 0 1 = cc in omega arith)
 
-refused-of : (a : Answer) {n r : ℕ} → C.Refused n r ≡ checkedOf a → a ≡ refused n r
+pub refused-of : (a : Answer) {n r : ℕ} → C.Refused n r ≡ checkedOf a → a ≡ refused n r
 refused-of (accepted x) e = absurd (let z : _≡_ {A = ℕ} 0 1 = cc in omega arith)
 refused-of (refused n r) e = cc
 

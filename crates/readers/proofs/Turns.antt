@@ -1,11 +1,14 @@
 -- What a loop over the statements of an accepted file goes by: it starts at 0, and goes on from a statement's place to its end while it is before the file's.
 use mathlib.Core.Path.{_≡_, refl, ap, _∙_}
+use mathlib.Core.Bool.{Bool, true, false}
 use mathlib.Core.List.{List, [], _∷_, map}
 use Prim.Native.Nat.{ℕ, _+_, _-_, _*_, _<_, _≤_}
 use native.Mathlib.Nat.{add-mul, add-sub-cancel-left, mul-le-mul-right}
 use native.Mathlib.Omega.{arith}
+use lib.Dec.{eqb}
 use lib.ListN.{length, take, drop, getD, length-drop}
 use lib.Seq.{drop-length}
+use borrow.Author.Tests.{eqb-true, eqb-false}
 use Rattle.zones.specs.Pieces.{flat}
 use Rattle.framing.specs.declared.Form.{Form}
 use Rattle.framing.specs.Files.{widthOf}
@@ -47,6 +50,22 @@ module _ {f : Form} {b : List ℕ} {ss : List Statement} (r : Reads july f b ss)
       let e : length (drop m b) ≡ 0 =
       ap length (from-record r n ∙ ap flat (no-pieces (drop n (pieces july f b)) (records-from r n ∙ (drop-before july2004 (length ss) ss ∙ ap (allRecords july2004) (drop-length ss))))) in
       omega (arith, e, length-drop m b, before-inside r (length ss) (omega arith))
+
+  -- at the place of statement i, from 0, and before the end of the file, there is one more
+  pub one-more : {i at : ℕ} → i ≤ length ss → at ≡ recordsBefore i ss * widthOf recordSize f → at < length b → i < length ss
+  one-more {i} {at} u p l = by (eqb i (length ss)) refl
+    where
+      by : (t : Bool) → eqb i (length ss) ≡ t → i < length ss
+      by true q = absurd (let z : at ≡ length b = p ∙ ap (λ (m : ℕ). recordsBefore m ss * widthOf recordSize f) (eqb-true i (length ss) q) ∙ after-last in omega arith)
+      by false q = let n = eqb-false i (length ss) q in omega arith
+
+  -- the end of the file is the end of its statements
+  pub last-turn : {i at : ℕ} → i ≤ length ss → at ≡ recordsBefore i ss * widthOf recordSize f → length b ≤ at → i ≡ length ss
+  last-turn {i} {at} u p l = by (eqb i (length ss)) refl
+    where
+      by : (t : Bool) → eqb i (length ss) ≡ t → i ≡ length ss
+      by true q = eqb-true i (length ss) q
+      by false q = absurd (let n = eqb-false i (length ss) q in let h = before-end i (omega arith) in omega arith)
 
   -- what lies between the two places is statement j + 1
   pub between : (j : ℕ) → j < length ss

@@ -4,6 +4,7 @@ pub mod Valued
 pub mod Complements
 pub mod Canon
 pub mod Lawful
+pub mod Zones
 pub mod Theorems
 pub mod Looking
 pub mod Compared
