@@ -2,7 +2,7 @@
 use mathlib.Core.Path.{_≡_, refl}
 use mathlib.Core.Bool.{Bool, true, false, not, _&&_, _||_, false≢true}
 use mathlib.Core.List.{List, [], _∷_, _++_, map}
-use Prim.Native.Nat.{ℕ, _+_, _-_, _*_, _/_, _%_, _<_, _≤_}
+use Prim.Native.Nat.{ℕ, zero, suc, _+_, _-_, _*_, _/_, _%_, _<_, _≤_}
 use native.Mathlib.Omega.{arith}
 use lib.Dec.{eqb, leb, ltb}
 use lib.ListN.{length-map, length, take, getD, length-append}
@@ -19,14 +19,19 @@ use Rattle.grammar.specs.Answer.{Rule, ruled, Counts, Answer, first, cut, whole
 use Rattle.grammar.specs.Record.{Rec, opening, movement, complement, closing}
 use Rattle.grammar.specs.Since.{sinceOpening, tally}
 use Rattle.grammar.specs.Statements.{Statement, recordsOf, allRecords, countsOf}
-use Rattle.grammar.specs.Files.{recOf, pieces, checkOf, statementsOf, rulesAfter, appliesIn, Ruled, line, multiple, many, records}
+use Rattle.grammar.specs.Files.{recOf, pieces, Reads, checkOf, statementsOf, rulesAfter, appliesIn, Ruled, line, multiple, many, records}
 use Rattle.grammar.specs.Parts.{sizeOf, recordsBefore, nothing}
 use Rattle.grammar.proofs.Parts.{length-one}
 use Rattle.records.specs.July.{recordSize, mostInFile, july, july2004}
 use Rattle.records.proofs.Theorems as T
+use Rattle.dates.specs.Days.{isDay}
+use Rattle.dates.proofs.Months.{month-days}
+use Rattle.dates.proofs.Ordinals.{parts, part-month}
 use Rattle.statements.specs.Answers.{checkedOf}
 use Rattle.readers.specs.declared.Place.{Place}
 use Rattle.readers.specs.declared.Place.the-variants as P
+use Rattle.contents.specs.Earliest.{earliestOf, beginningBy, beginningOf}
+use Rattle.contents.proofs.Begun.{earliest-day, earliest-none}
 use Rattle.bodies.proofs.Single.{size-most}
 use Rattle.entries.specs.Entries.{mostEntries, tableSize, lineAt, entryIn, rowSize}
 use Rattle.journal_layout.specs.declared.Opening.the-variants as O
@@ -41,7 +46,7 @@ use Rattle.journal_layout.proofs.Places.{stood}
 use Rattle.journal_layout.proofs.Listing.{listed as place-listed}
 use Rattle.journal.specs.Delivery.{hold, store, refuse, isHeld, verdictOf, Outcome, refused, proceed, run, linesIn, outcomeOf}
 use Rattle.journal.specs.Answers.{answerOf}
-use Rattle.collector.specs.Bounds.{lastRefusal, Refusal, Body, Lines, CheckBounds, OpeningBounds, DeliveryBounds, EntryBounds, ListedBounds, UsageBounds, LengthBounds}
+use Rattle.collector.specs.Bounds.{lastRefusal, lastDay, Refusal, Body, Lines, CheckBounds, OpeningBounds, DeliveryBounds, EntryBounds, ListedBounds, UsageBounds, LengthBounds, BeginningBounds}
 use Rattle.collector.specs.Answers.{form, openAnswer, listedBy, listedAnswer, lengthAnswer}
 
 -- ---- the check
@@ -298,3 +303,27 @@ length-bounds e n = by (unknownEnd (form e)) (not (eqb (n % w) 0)) (ltb mostInFi
     by false true c q = record { some = omega arith; listed = omega arith; near = omega arith }
     by false false true q = record { some = omega arith; listed = omega arith; near = omega arith }
     by false false false q = ltb-false mostInFile (n / w) q
+
+-- ---- on what day a file begins
+
+day-most : (k : ℕ) → isDay k ≡ true → k ≤ lastDay
+day-most k h =
+    let p = parts k h in
+    let m = part-month k p in
+    let d = month-days (k / 10000) (k / 100 % 100) m in
+    omega (arith, p .high, p .last)
+
+pub earliest-bounds : (f : Form) (b : List ℕ) → BeginningBounds (beginningOf f b)
+unfolding beginningOf
+earliest-bounds f b = by (checkOf july f b) refl
+  where
+    early : {ss : List Statement} → Reads july f b ss → earliestOf ss ≤ lastDay
+    early {ss} r = some (length ss) refl
+      where
+        some : (n : ℕ) → length ss ≡ n → earliestOf ss ≤ lastDay
+        some zero l = let z = earliest-none r .1 l in omega arith
+        some (suc n) l = day-most (earliestOf ss) (earliest-day r (omega arith))
+
+    by : (a : Answer) → checkOf july f b ≡ a → BeginningBounds (beginningBy a (statementsOf july f b))
+    by (G.accepted c) p = early (T.reads f b p)
+    by (G.refused n r) p = let z : Refusal n r = rw p at (check-bounds f b) in z

@@ -5,13 +5,14 @@ use Prim.Native.Nat.{ℕ}
 use Rattle.framing.specs.declared.Frame.{Frame}
 use Rattle.statements.specs.declared.Checked.{Checked}
 use Rattle.readers.specs.declared.Place.{Place}
+use Rattle.contents.specs.declared.Beginning.{Beginning}
 use Rattle.journal_layout.specs.declared.Opening.{Opening}
 use Rattle.journal_layout.specs.declared.Usage.{Usage}
 use Rattle.journal_layout.specs.Test.{entryPlaceOf, listedPlaceOf, usageOf}
 use Rattle.journal.specs.declared.Delivery.{Delivery}
-use Rattle.collector.specs.Bounds.{CheckBounds, OpeningBounds, DeliveryBounds, EntryBounds, ListedBounds, UsageBounds, LengthBounds}
-use Rattle.collector.specs.Answers.{form, checkAnswer, openAnswer, deliverAnswer, lengthAnswer}
-use Rattle.collector.proofs.Bounds.{check-bounds, opening-bounds, delivery-bounds, entry-bounds, place-bounds, usage-bounds, length-bounds}
+use Rattle.collector.specs.Bounds.{CheckBounds, OpeningBounds, DeliveryBounds, EntryBounds, ListedBounds, UsageBounds, LengthBounds, BeginningBounds}
+use Rattle.collector.specs.Answers.{form, checkAnswer, openAnswer, deliverAnswer, lengthAnswer, earliestAnswer}
+use Rattle.collector.proofs.Bounds.{check-bounds, opening-bounds, delivery-bounds, entry-bounds, place-bounds, usage-bounds, length-bounds, earliest-bounds}
 
 pub checked : (e : ℕ) (b : List ℕ) {r : Checked} → r ≡ checkAnswer e b → CheckBounds r
 checked e b p = rw p (check-bounds (form e) b)
@@ -33,3 +34,6 @@ listed j e p = rw p (place-bounds j e)
 
 pub measured : (e n : ℕ) {r : Frame} → r ≡ lengthAnswer e n → LengthBounds r
 measured e n p = rw p (length-bounds e n)
+
+pub begun : (e : ℕ) (b : List ℕ) {r : Beginning} → r ≡ earliestAnswer e b → BeginningBounds r
+begun e b p = rw p (earliest-bounds (form e) b)

@@ -4,4 +4,5 @@ pub mod Calls
 pub mod Rows
 pub mod Listed
 pub mod Lengths
+pub mod Beginnings
 pub mod One

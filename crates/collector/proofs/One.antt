@@ -2,7 +2,7 @@
 use mathlib.Core.Path.{_≡_, sym, _∙_}
 use mathlib.Core.List.{List}
 use Prim.Native.Nat.{ℕ}
-use Rattle.collector.specs.Answers.{CheckNumber, OpenNumber, DeliverNumber, EntryNumber, UsedNumber, ListedNumber, LengthNumber}
+use Rattle.collector.specs.Answers.{CheckNumber, OpenNumber, DeliverNumber, EntryNumber, UsedNumber, ListedNumber, LengthNumber, EarliestNumber}
 
 pub one-check : {e : ℕ} {b : List ℕ} {r q : ℕ} → CheckNumber e b r → CheckNumber e b q → r ≡ q
 one-check g h = g .answer ∙ sym (h .answer)
@@ -24,3 +24,6 @@ one-listed g h = (g .answer ∙ sym (h .answer), g .content ∙ sym (h .content)
 
 pub one-length : {e n r q : ℕ} → LengthNumber e n r → LengthNumber e n q → r ≡ q
 one-length g h = g .answer ∙ sym (h .answer)
+
+pub one-earliest : {e : ℕ} {b : List ℕ} {r q : ℕ} → EarliestNumber e b r → EarliestNumber e b q → r ≡ q
+one-earliest g h = g .answer ∙ sym (h .answer)

@@ -1,9 +1,9 @@
 -- A packed number holds its whole answer: the fields fit, and unpacking gives the paper's answer back. So two different answers have different numbers.
 use mathlib.Core.Path.{_≡_, refl, sym, ap, _∙_}
 use mathlib.Core.List.{List}
-use Prim.Native.Nat.{ℕ, _-_, _*_, _/_, _≤_}
+use Prim.Native.Nat.{ℕ, _-_, _*_, _/_, _%_, _≤_}
 use native.Mathlib.Omega.{arith}
-use Rattle.packing.specs.Packing.{Fits}
+use Rattle.packing.specs.Packing.{Fits, bit20, kindIn}
 use Rattle.packing.proofs.Packing.{a-back, b-back, c-back, kind-back}
 use Rattle.framing.specs.declared.Frame.{Frame}
 use Rattle.framing.specs.declared.Frame.the-variants as F
@@ -14,6 +14,9 @@ use Rattle.statements.specs.Answers.{paperCheck}
 use Rattle.readers.specs.declared.Place.{Place}
 use Rattle.readers.specs.declared.Place.the-variants as P
 use Rattle.readers.specs.Answers.{paperPlace}
+use Rattle.contents.specs.declared.Beginning.{Beginning}
+use Rattle.contents.specs.declared.Beginning.the-variants as B
+use Rattle.contents.specs.Answers.{paperBeginning}
 use Rattle.entries.specs.Entries.{tableSize, lineAt}
 use Rattle.journal_layout.specs.declared.Opening.{Opening}
 use Rattle.journal_layout.specs.declared.Opening.the-variants as O
@@ -24,10 +27,10 @@ use Rattle.journal_layout.specs.Test.{entryPlaceOf, usageOf}
 use Rattle.journal.specs.declared.Delivery.{Delivery}
 use Rattle.journal.specs.declared.Delivery.the-variants as D
 use Rattle.journal.specs.Answers.{paperDelivery}
-use Rattle.collector.specs.Packing.{packedCheck, packedOpening, packedDelivery, packedEntry, packedUsage, packedLength, checkedIn, openingIn, deliveryIn, placeIn, usageIn, lengthIn, paperLength}
-use Rattle.collector.specs.Bounds.{Refusal, Counted, Told, Body, Lines, Filled, CheckBounds, OpeningBounds, DeliveryBounds, EntryBounds, ListedBounds, UsageBounds, LengthBounds}
-use Rattle.collector.specs.Answers.{form, checkAnswer, openAnswer, deliverAnswer, listedAnswer, lengthAnswer, CheckNumber, OpenNumber, DeliverNumber, EntryNumber, UsedNumber, ListedNumber, LengthNumber}
-use Rattle.collector.proofs.Bounds.{check-bounds, opening-bounds, delivery-bounds, entry-bounds, listed-bounds, usage-bounds, length-bounds}
+use Rattle.collector.specs.Packing.{packedCheck, packedOpening, packedDelivery, packedEntry, packedUsage, packedLength, packedBeginning, checkedIn, openingIn, deliveryIn, placeIn, usageIn, lengthIn, paperLength, dayIn, beginningIn}
+use Rattle.collector.specs.Bounds.{Refusal, Counted, Told, Body, Lines, Filled, CheckBounds, OpeningBounds, DeliveryBounds, EntryBounds, ListedBounds, UsageBounds, LengthBounds, lastDay, BeginningBounds}
+use Rattle.collector.specs.Answers.{form, checkAnswer, openAnswer, deliverAnswer, listedAnswer, lengthAnswer, earliestAnswer, CheckNumber, OpenNumber, DeliverNumber, EntryNumber, UsedNumber, ListedNumber, LengthNumber, EarliestNumber}
+use Rattle.collector.proofs.Bounds.{check-bounds, opening-bounds, delivery-bounds, entry-bounds, listed-bounds, usage-bounds, length-bounds, earliest-bounds}
 
 -- ---- numbers within their bounds fit
 
@@ -77,6 +80,9 @@ filled-fits k =
 pub records-fits : {n : ℕ} → n ≤ mostInFile → Fits 0 n 0 0
 records-fits k = record { kind-fits = omega arith; a-fits = omega arith; b-fits = omega arith; c-fits = omega arith }
 
+pub day-fits : {d : ℕ} → d ≤ lastDay → Fits 0 (d % bit20) (d / bit20) 0
+day-fits k = record { kind-fits = omega arith; a-fits = omega arith; b-fits = omega arith; c-fits = omega arith }
+
 -- ---- an answer within its bounds is unpacked as it was packed
 
 pub check-back : (r : Checked) → CheckBounds r → checkedIn (packedCheck r) ≡ r
@@ -116,6 +122,14 @@ pub length-back : (r : Frame) → LengthBounds r → lengthIn (packedLength r) �
 length-back (F.Records w n) k = let f = records-fits k in rw (kind-back f, a-back f)
 length-back (F.Refused n) k = let f = refusal-fits k in rw (kind-back f, a-back f, b-back f)
 
+pub beginning-back : (r : Beginning) → BeginningBounds r → beginningIn (packedBeginning r) ≡ r
+beginning-back (B.On d) k =
+    let z : packedBeginning (B.On d) ≡ d = omega arith in
+    let o : kindIn d ≡ 0 = omega arith in
+    let y : dayIn d ≡ d = omega arith in
+    rw (z, o, y)
+beginning-back (B.Refused n r) k = let f = refusal-fits k in rw (kind-back f, a-back f, b-back f)
+
 -- ---- so an exported number is unpacked to the answer, and to the paper's answer
 
 pub check-unpacked : {e : ℕ} {b : List ℕ} {n : ℕ} → CheckNumber e b n → checkedIn n ≡ checkAnswer e b
@@ -135,6 +149,9 @@ used-unpacked {j} g = ap usageIn (g .answer) ∙ usage-back (usageOf j) (usage-b
 
 pub listed-unpacked : {j : List ℕ} {e : ℕ} {w : List ℕ} {n : ℕ} {w′ : List ℕ} → ListedNumber j e w n w′ → placeIn n ≡ listedAnswer j e w
 listed-unpacked {j} {e} {w} g = ap placeIn (g .answer) ∙ listed-back (listedAnswer j e w) (listed-bounds j e w)
+
+pub earliest-unpacked : {e : ℕ} {b : List ℕ} {n : ℕ} → EarliestNumber e b n → beginningIn n ≡ earliestAnswer e b
+earliest-unpacked {e} {b} g = ap beginningIn (g .answer) ∙ beginning-back (earliestAnswer e b) (earliest-bounds (form e) b)
 
 pub check-paper : {e : ℕ} {b : List ℕ} {n : ℕ} → CheckNumber e b n → paperCheck (checkedIn n) ≡ paperCheck (checkAnswer e b)
 check-paper g = ap paperCheck (check-unpacked g)
@@ -158,6 +175,9 @@ listed-paper g = ap paperPlace (listed-unpacked g)
 -- the width of a record is the form's, and no part of the answer
 pub length-paper : {e m n : ℕ} → LengthNumber e m n → lengthIn n ≡ paperLength (lengthAnswer e m)
 length-paper {e} {m} g = ap lengthIn (g .answer) ∙ length-back (lengthAnswer e m) (length-bounds e m)
+
+pub earliest-paper : {e : ℕ} {b : List ℕ} {n : ℕ} → EarliestNumber e b n → paperBeginning (beginningIn n) ≡ paperBeginning (earliestAnswer e b)
+earliest-paper g = ap paperBeginning (earliest-unpacked g)
 
 -- ---- and one number stands for one answer: two different answers have different numbers
 
@@ -183,3 +203,6 @@ listed-apart g h = sym (listed-unpacked g) ∙ listed-unpacked h
 
 pub length-apart : {e d m l n : ℕ} → LengthNumber e m n → LengthNumber d l n → paperLength (lengthAnswer e m) ≡ paperLength (lengthAnswer d l)
 length-apart g h = sym (length-paper g) ∙ length-paper h
+
+pub earliest-apart : {e d : ℕ} {b a : List ℕ} {n : ℕ} → EarliestNumber e b n → EarliestNumber d a n → earliestAnswer e b ≡ earliestAnswer d a
+earliest-apart g h = sym (earliest-unpacked g) ∙ earliest-unpacked h

@@ -14,6 +14,8 @@ use Rattle.statements.specs.declared.Checked.{Checked}
 use Rattle.statements.specs.Answers.{checkedOf}
 use Rattle.readers.specs.declared.Place.{Place}
 use Rattle.readers.specs.declared.Place.the-variants as P
+use Rattle.contents.specs.declared.Beginning.{Beginning}
+use Rattle.contents.specs.Earliest.{beginningOf}
 use Rattle.entries.specs.Entries.{rowSize, entryBytes, rowOf}
 use Rattle.journal_layout.specs.declared.Opening.{Opening}
 use Rattle.journal_layout.specs.declared.Opening.the-variants.{Opened, Refused}
@@ -22,7 +24,7 @@ use Rattle.journal_layout.specs.Test.{entryPlaceOf, listedPlaceOf, usageOf}
 use Rattle.journal.specs.declared.Delivery.{Delivery}
 use Rattle.journal.specs.Delivery.{outcomeOf, contentOf}
 use Rattle.journal.specs.Answers.{answerOf}
-use Rattle.collector.specs.Packing.{packedCheck, packedOpening, packedDelivery, packedEntry, packedUsage, packedLength}
+use Rattle.collector.specs.Packing.{packedCheck, packedOpening, packedDelivery, packedEntry, packedUsage, packedLength, packedBeginning}
 
 -- the form of a file with a line-end number
 abbrev pub form : ℕ → Form
@@ -58,6 +60,10 @@ listedContent j e row = contentBy (listedAnswer j e row) (rowOf (entryBytes j (e
 abbrev pub lengthAnswer : (e n : ℕ) → Frame
 lengthAnswer e n = frameBy (form e) recordSize mostInFile n
 
+-- of a file's beginning
+abbrev pub earliestAnswer : (e : ℕ) → List ℕ → Beginning
+earliestAnswer e b = beginningOf (form e) b
+
 -- crownhazel_check
 pub record CheckNumber (e : ℕ) (b : List ℕ) (r : ℕ) : Type 0 where
   pub answer : r ≡ packedCheck (checkAnswer e b)
@@ -88,3 +94,7 @@ pub record ListedNumber (j : List ℕ) (e : ℕ) (row : List ℕ) (r : ℕ) (row
 -- crownhazel_length
 pub record LengthNumber (e n : ℕ) (r : ℕ) : Type 0 where
   pub answer : r ≡ packedLength (lengthAnswer e n)
+
+-- crownhazel_earliest
+pub record EarliestNumber (e : ℕ) (b : List ℕ) (r : ℕ) : Type 0 where
+  pub answer : r ≡ packedBeginning (earliestAnswer e b)

@@ -8,6 +8,8 @@ use Rattle.statements.specs.declared.Checked.{Checked}
 use Rattle.statements.specs.declared.Checked.the-variants as C
 use Rattle.readers.specs.declared.Place.{Place}
 use Rattle.readers.specs.declared.Place.the-variants as P
+use Rattle.contents.specs.declared.Beginning.{Beginning}
+use Rattle.contents.specs.declared.Beginning.the-variants as B
 use Rattle.entries.specs.Entries.{mostEntries, lineAt}
 use Rattle.journal_layout.specs.declared.Opening.{Opening}
 use Rattle.journal_layout.specs.declared.Opening.the-variants as O
@@ -20,6 +22,10 @@ use Rattle.journal.specs.declared.Delivery.the-variants as D
 -- the last number of the list of refusals
 abbrev pub lastRefusal : ℕ
 lastRefusal = 25
+
+-- 31 December 2079: the years end there
+abbrev pub lastDay : ℕ
+lastDay = 20791231
 
 -- a number of that list, and a record that a file can have, 0 for none
 pub record Refusal (number at : ℕ) : Type 0 where
@@ -86,3 +92,7 @@ UsageBounds (U.Refused n r) = Refusal n r
 abbrev pub LengthBounds : Frame → Type 0
 LengthBounds (F.Records w n) = n ≤ mostInFile
 LengthBounds (F.Refused n) = Refusal n 0
+
+abbrev pub BeginningBounds : Beginning → Type 0
+BeginningBounds (B.On d) = d ≤ lastDay
+BeginningBounds (B.Refused n r) = Refusal n r

@@ -1,10 +1,11 @@
 -- The one number of each exported function's answer, by `packing`.
 --
 -- What a, b and c are where it answered: the check's statements, movements and complements; opening all 0; the delivery's stored and held; an entry's number of
--- records and first body line, listed or not; the entries used, the body lines used and those in all; the records of a file of some length.
-use Prim.Native.Nat.{ℕ, _-_, _*_, _/_}
+-- records and first body line, listed or not; the entries used, the body lines used and those in all; the records of a file of some length; the low 20 bits of the
+-- day that a file begins on, and those above them.
+use Prim.Native.Nat.{ℕ, _-_, _*_, _/_, _%_}
 use Rattle.zones.specs.Choice.{pick}
-use Rattle.packing.specs.Packing.{aIn, bIn, cIn, isAnswer, answered, refused}
+use Rattle.packing.specs.Packing.{bit20, bit40, aIn, bIn, cIn, isAnswer, answered, refused}
 use Rattle.records.specs.July.{recordSize}
 use Rattle.framing.specs.declared.Frame.{Frame}
 use Rattle.framing.specs.declared.Frame.the-variants as F
@@ -12,6 +13,8 @@ use Rattle.statements.specs.declared.Checked.{Checked}
 use Rattle.statements.specs.declared.Checked.the-variants as C
 use Rattle.readers.specs.declared.Place.{Place}
 use Rattle.readers.specs.declared.Place.the-variants as P
+use Rattle.contents.specs.declared.Beginning.{Beginning}
+use Rattle.contents.specs.declared.Beginning.the-variants as B
 use Rattle.entries.specs.Entries.{tableSize, lineAt}
 use Rattle.journal_layout.specs.declared.Opening.{Opening}
 use Rattle.journal_layout.specs.declared.Opening.the-variants as O
@@ -47,6 +50,11 @@ abbrev pub packedLength : Frame → ℕ
 packedLength (F.Records w n) = answered n 0 0
 packedLength (F.Refused n) = refused n 0
 
+-- a day is one number over a and b
+abbrev pub packedBeginning : Beginning → ℕ
+packedBeginning (B.On d) = answered (d % bit20) (d / bit20) 0
+packedBeginning (B.Refused n r) = refused n r
+
 -- and back
 abbrev pub checkedIn : ℕ → Checked
 checkedIn n = pick (isAnswer n) (C.Accepted (aIn n) (bIn n) (cIn n)) (C.Refused (bIn n) (aIn n))
@@ -62,6 +70,13 @@ placeIn n = pick (isAnswer n) (P.At (lineAt (bIn n)) (recordSize * aIn n)) (P.Re
 
 abbrev pub usageIn : ℕ → Usage
 usageIn n = pick (isAnswer n) (U.Counted (aIn n) (bIn n) (cIn n)) (U.Refused (bIn n) (aIn n))
+
+-- the day is the number in the bits 0 to 39
+abbrev pub dayIn : ℕ → ℕ
+dayIn n = n % bit40
+
+abbrev pub beginningIn : ℕ → Beginning
+beginningIn n = pick (isAnswer n) (B.On (dayIn n)) (B.Refused (bIn n) (aIn n))
 
 -- number, record and number of records; zero where the paper says zero
 pub record PaperLength : Type 0 where

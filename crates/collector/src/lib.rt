@@ -1,5 +1,6 @@
 // What the collector's host program calls. Each function answers one number that holds its whole answer, by `specs/Packing.antt`.
-ghost use Rattle.collector.specs.Answers.{CheckNumber, OpenNumber, DeliverNumber, EntryNumber, UsedNumber, ListedNumber, LengthNumber};
+ghost use Rattle.collector.specs.Answers.{CheckNumber, OpenNumber, DeliverNumber, EntryNumber, UsedNumber, ListedNumber, LengthNumber, EarliestNumber};
+use contents::Beginning;
 use framing::Form;
 use framing::Frame;
 use journal::Delivery;
@@ -98,5 +99,18 @@ pub extern "C" fn crownhazel_length(line_end: u64, length: u64) -> u64
     match framing::cut_length(Form { line_end }, 120, 20000, length as usize) {
         Frame::Records { width: _, count } => packing::answered(count as u64, 0, 0),
         Frame::Refused(number) => packing::refused(number, 0),
+    }
+}
+
+// On what day a file begins: the earliest old balance date of its statements, one number over a and b.
+#[no_mangle]
+pub extern "C" fn crownhazel_earliest(line_end: u64, file: &[u8]) -> u64
+    ensures { λ r. ⌜ EarliestNumber «line_end» (now (file .entry)) r ⌝ }
+{
+    match contents::earliest(Form { line_end }, file) {
+        Beginning::On { day } => {
+            packing::answered((day % 1048576) as u64, (day / 1048576) as u64, 0)
+        }
+        Beginning::Refused { number, record } => packing::refused(number, record),
     }
 }
