@@ -55,7 +55,11 @@ uint64_t crownhazel_listed(const uint8_t *journal, size_t journal_len, uint64_t 
  * of that length that is refused here is refused so by crownhazel_check, whatever its bytes. */
 uint64_t crownhazel_length(uint64_t line_end, uint64_t length);
 
-/* An answer: bits 0-19, 20-39 and 40-59 hold a field each, bits 60-63 the kind. */
+/* Says on what day a file begins: the earliest old balance date of its statements. Judges the file first, and refuses it
+ * where crownhazel_check does, with the same number. */
+uint64_t crownhazel_earliest(uint64_t line_end, const uint8_t *file, size_t file_len);
+
+/* An answer: bits 0-19, 20-39 and 40-59 hold a field each, bits 60-63 the kind. A day takes two fields: bits 0-39. */
 enum {
     CROWNHAZEL_ANSWERED = 0,
     CROWNHAZEL_REFUSED = 1
@@ -129,6 +133,11 @@ static inline uint32_t crownhazel_lines(uint64_t used) {
 /* Of crownhazel_length: how many records a file of that length has. */
 static inline uint32_t crownhazel_records_in(uint64_t judged) {
     return crownhazel_field(judged, 0);
+}
+
+/* Of crownhazel_earliest: the day as a number YYYYMMDD, 0 for a file without a statement. */
+static inline uint64_t crownhazel_day_of(uint64_t begun) {
+    return begun & 0xFFFFFFFFFFu;
 }
 
 /* The words of the list of refusals. */
