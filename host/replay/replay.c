@@ -29,6 +29,11 @@ static struct slice take_file(struct source *source) {
     return take_bytes(source, files, MOST_FILE);
 }
 
+/* The date in bits 0 to 39. One that does not fit shows in the whole number. */
+static uint32_t first_date(uint64_t number) {
+    return (uint32_t)(number & ((UINT64_C(1) << 40) - 1));
+}
+
 /* The answer that the header takes out of a number. */
 static struct answer unpacked(char call, uint64_t number) {
     struct answer answer = {.kind = crownhazel_kind(number)};
@@ -51,6 +56,8 @@ static struct answer unpacked(char call, uint64_t number) {
         answer.c = crownhazel_lines(number);
     } else if (call == 'R') {
         answer.a = crownhazel_records_in(number);
+    } else if (call == 'F') {
+        answer.a = first_date(number);
     }
     return answer;
 }
@@ -124,24 +131,39 @@ static bool is_row(const struct place *place, struct slice put, struct slice row
     return i == length;
 }
 
-/* One file, its line-end number, what the check answers and what its length alone answers. */
+/* A function that a file and its line-end number are given to. */
+typedef uint64_t judge_file(uint64_t line_end, const uint8_t *file, size_t file_len);
+
+static bool judge(const struct place *place, struct answer expected, judge_file *call, uint64_t line_end,
+                  struct slice file) {
+    bool same = true;
+    for (unsigned way = 0; way < ways(file); way++) {
+        same &= is_answer(place, expected, call(line_end, lent(file, way), file.length));
+        same &= is_file(place, file);
+    }
+    return same;
+}
+
+/* One file, its line-end number, what the check answers, what its length alone answers, and its earliest old balance
+ * date. */
 static bool run_file(struct source *source, struct place *place) {
     uint64_t line_end = take_number(source, 8);
     struct slice file = take_file(source);
     struct answer checked = take_answer(source);
     struct answer by_length = take_answer(source);
-    bool same = true;
-    place->operation = 1;
-    memcpy(file_copy, file.first, file.length);
-    for (unsigned way = 0; way < ways(file) && !source->broken; way++) {
-        same &= is_answer(place, checked, crownhazel_check(line_end, lent(file, way), file.length));
-        same &= is_file(place, file);
+    struct answer earliest = take_answer(source);
+    if (source->broken) {
+        return true;
     }
+    memcpy(file_copy, file.first, file.length);
+    place->operation = 1;
+    bool same = judge(place, checked, crownhazel_check, line_end, file);
     place->operation = 2;
     place->call = 'R';
-    if (!source->broken) {
-        same &= is_answer(place, by_length, crownhazel_length(line_end, file.length));
-    }
+    same &= is_answer(place, by_length, crownhazel_length(line_end, file.length));
+    place->operation = 3;
+    place->call = 'F';
+    same &= judge(place, earliest, crownhazel_earliest, line_end, file);
     return same;
 }
 

@@ -3,7 +3,7 @@
 use std::collections::BTreeMap;
 
 use crate::check::{check, records_in, Answer};
-use crate::read::Refusal;
+use crate::read::{earliest, Refusal};
 
 /// An answer in the paper's numbers: kind (0 answered, 1 refused), refusal, record, three values.
 #[derive(Clone, Copy, Debug, PartialEq, Eq)]
@@ -53,6 +53,11 @@ impl Numbers {
         }
     }
 
+    /// The earliest old balance date in a file; it stands in the first two fields of the number.
+    pub fn of_earliest(line_end: u64, file: &[u8]) -> Numbers {
+        Numbers::of_call(earliest(line_end, file).map(|date| [u64::from(date), 0, 0]))
+    }
+
     pub fn of_call(answer: Result<[u64; 3], Refusal>) -> Numbers {
         match answer {
             Ok(values) => Numbers::answered(values),
@@ -68,7 +73,7 @@ impl Numbers {
     }
 }
 
-/// No answer has a number beyond 20 bits.
+/// No answer has a number beyond 20 bits but a date, which has 25.
 fn narrow(number: u64) -> u32 {
     u32::try_from(number).expect("an answer of more than 32 bits")
 }

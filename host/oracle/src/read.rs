@@ -107,6 +107,13 @@ pub fn complement(line_end: u64, file: &[u8], k: u64, m: u64, c: u64) -> Result<
     Ok(complement)
 }
 
+/// The earliest old balance date among the statements of the file, 0 where it has none.
+pub fn earliest(line_end: u64, file: &[u8]) -> Result<u32, Refusal> {
+    let statements = statements(line_end, file)?;
+    let dates = statements.iter().map(|statement| statement.head.old_date);
+    Ok(dates.min().unwrap_or(0))
+}
+
 /// All statements of an accepted file, or the file's refusal.
 pub fn statements(line_end: u64, file: &[u8]) -> Result<Vec<Statement<'_>>, Refusal> {
     if let Answer::Refused { number, record } = check(line_end, file) {

@@ -44,15 +44,18 @@ pub fn replay_checks(seed: u64, count: u64, path: &Path) -> io::Result<String> {
     ))
 }
 
-/// A file: letter, line-end number, file, the answer of the check, that to its length.
+/// A file: letter, line-end number, file, the answer of the check, that to its length, its earliest
+/// old balance date.
 pub fn add_check(cases: &mut Cases, case: &Case) -> io::Result<()> {
     let checked = Numbers::of_check(case.line_end, &case.bytes);
     let by_length = Numbers::of_length(case.line_end, case.bytes.len() as u64);
+    let earliest = Numbers::of_earliest(case.line_end, &case.bytes);
     let mut body = vec![b'C'];
     body.extend(case.line_end.to_le_bytes());
     put_bytes(&mut body, &case.bytes);
     checked.put(&mut body);
     by_length.put(&mut body);
+    earliest.put(&mut body);
     cases.add(&case.name, &body, &[checked.number])
 }
 

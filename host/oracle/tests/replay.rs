@@ -76,7 +76,9 @@ fn checks_by_hand_are_read_back() {
         b"\x05\0\0\0emptyC\x02\0\0\0\0\0\0\0\0\0\0\0",
         b"\0\0\0\0\0\0\0\0\0\0\0\0\0\0\0\0\0\0\0\0\0",
         b"\0\0\0\0\0\0\0\0\0\0\0\0\0\0\0\0\0\0\0\0\0",
+        b"\0\0\0\0\0\0\0\0\0\0\0\0\0\0\0\0\0\0\0\0\0",
         b"\x07\0\0\0far-outC\xFF\xFF\xFF\xFF\xFF\xFF\xFF\xFF\x02\0\0\x000\xFF",
+        b"\x01\x01\0\0\0\0\0\0\0\0\0\0\0\0\0\0\0\0\0\0\0",
         b"\x01\x01\0\0\0\0\0\0\0\0\0\0\0\0\0\0\0\0\0\0\0",
         b"\x01\x01\0\0\0\0\0\0\0\0\0\0\0\0\0\0\0\0\0\0\0",
     ];
@@ -91,7 +93,46 @@ fn hostile_checks_get_the_answer_they_expect() {
     }
 }
 
-/// Every refusal of the check occurs, and the answers are the check's and those to the length.
+/// The old balance dates of an accepted file as YYYYMMDD, from its lines that begin with 01.
+fn old_dates(line_end: u64, file: &[u8]) -> Vec<u64> {
+    let lines = file.chunks(120 + line_end as usize);
+    let number = |digits: &[u8]| String::from_utf8_lossy(digits).parse::<u64>().unwrap();
+    let date = |line: &[u8]| {
+        let yy = number(&line[38..40]);
+        let century = if yy < 80 { 2000 } else { 1900 };
+        10_000 * (century + yy) + 100 * number(&line[36..38]) + number(&line[34..36])
+    };
+    lines
+        .filter(|line| line.starts_with(b"01"))
+        .map(date)
+        .collect()
+}
+
+/// What is answered for the earliest old balance date of a file, after the check's answer.
+fn earliest_of(checked: Numbers, line_end: u64, file: &[u8]) -> Numbers {
+    match checked {
+        [0, ..] => {
+            let dates = old_dates(line_end, file);
+            [0, 0, 0, dates.into_iter().min().unwrap_or(0), 0, 0]
+        }
+        refused => refused,
+    }
+}
+
+/// Where the earliest date of an accepted file stands among several: first, between, last.
+fn place_of_earliest(dates: &[u64]) -> Option<&'static str> {
+    let least = dates.iter().min()?;
+    let place = dates.iter().position(|date| date == least)?;
+    match (dates.len(), place) {
+        (0..=2, _) => None,
+        (_, 0) => Some("first"),
+        (count, place) if place == count - 1 => Some("last"),
+        _ => Some("between"),
+    }
+}
+
+/// Every refusal of the check occurs, and the answers are the check's, those to the length and the
+/// earliest old balance date, which stands anywhere among several.
 #[test]
 fn checks_are_read_back() {
     let path = path("generated.checks");
@@ -99,25 +140,29 @@ fn checks_are_read_back() {
     assert!(line.starts_with("checks: seed 3, 1903 fixed, 2000 generated: answered "));
     let file = std::fs::read(&path).unwrap();
     let mut reader = Reader(&file);
-    let mut refusals = BTreeSet::new();
+    let (mut refusals, mut places) = (BTreeSet::new(), BTreeSet::new());
     for _ in 0..reader.cases(CHECKS, 3) {
         assert!(!reader.bytes().is_empty());
         let (letter, line_end) = (reader.number(1) as u8, reader.number(8));
-        let length = match letter {
-            b'C' => {
-                let file = reader.bytes();
-                let answer = reader.answer();
-                assert_eq!(answer, checked(line_end, file));
-                refusals.insert(answer[1]);
-                file.len() as u64
-            }
-            b'R' => reader.number(8),
-            _ => panic!("unknown letter {letter}"),
-        };
-        assert_eq!(reader.answer(), of_length(line_end, length));
+        if letter == b'R' {
+            let length = reader.number(8);
+            assert_eq!(reader.answer(), of_length(line_end, length));
+            continue;
+        }
+        assert_eq!(letter, b'C');
+        let file = reader.bytes();
+        let answer = reader.answer();
+        assert_eq!(answer, checked(line_end, file));
+        assert_eq!(reader.answer(), of_length(line_end, file.len() as u64));
+        assert_eq!(reader.answer(), earliest_of(answer, line_end, file));
+        refusals.insert(answer[1]);
+        if answer[0] == 0 {
+            places.extend(place_of_earliest(&old_dates(line_end, file)));
+        }
     }
     assert!(reader.0.is_empty());
     assert_eq!(refusals, (0..=15).collect());
+    assert_eq!(places, ["between", "first", "last"].into());
 }
 
 /// Questions for entries, each with the length of its row, that are all refused with 25.

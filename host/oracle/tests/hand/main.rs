@@ -7,6 +7,7 @@ mod command;
 mod common;
 mod contents;
 mod delivery;
+mod earliest;
 mod journal;
 mod listing;
 mod newest;
