@@ -7,7 +7,7 @@ mod generated;
 mod large;
 mod questions;
 mod spans;
-mod statements;
+pub(crate) mod statements;
 mod unsound;
 mod vectors;
 

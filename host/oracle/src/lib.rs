@@ -3,7 +3,7 @@
 //!
 //! Written from the paper's rules alone. `check` holds the rules of a file, `writer` those of the
 //! values of a statement, `journal`, `contents` and `delivery` those of the journal, `cash` those
-//! of the balance in value; `read`, `listing` and `series` stand on them. Everything else makes
+//! of the balance in value; `read`, `listing`, `series` and `night` stand on them. Everything else makes
 //! files, values and series to try them on, and what it makes does not hang on a rule.
 
 pub mod answers;
@@ -21,6 +21,9 @@ pub mod hostile_series;
 pub mod journal;
 pub mod listing;
 pub mod listing_cases;
+pub mod night;
+pub mod night_cases;
+pub mod nights;
 pub mod nil;
 pub mod read;
 pub mod record;

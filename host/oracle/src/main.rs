@@ -12,6 +12,7 @@ use oracle::check::check;
 use oracle::failure::failure;
 use oracle::listing::listing;
 use oracle::listing_cases::listings;
+use oracle::nights::nights;
 use oracle::read::{complement, head, movement, place};
 use oracle::replay::{replay_checks, replay_series};
 use oracle::samples::write_samples;
@@ -51,6 +52,9 @@ const USAGE: &str = "usage:
       the same with tables of movements, and with statements to write
   oracle replay-positions SEED COUNT OUT
       the same with balances in value
+  oracle nights SEED COUNT DIR
+      writes COUNT nights of an intake as DIR/000 .., each a folder with what is expected of it;
+      prints a line a night
   oracle samples DIR
       the files of samples/
   oracle time FILE LINE_END TIMES
@@ -83,6 +87,10 @@ fn run(arguments: &[&str]) -> io::Result<()> {
         ["big", directory] => print_lines(&big(Path::new(directory))?),
         ["nil", directory] => print_lines(&nil_files(Path::new(directory))?),
         ["samples", directory] => print_lines(&write_samples(Path::new(directory))?),
+        ["nights", seed, count, directory] => {
+            let count = number(count)? as usize;
+            print_lines(&nights(number(seed)?, count, Path::new(directory))?)
+        }
         ["listings", seed, count, directory] => {
             let count = number(count)? as usize;
             print_lines(&listings(number(seed)?, count, Path::new(directory))?)

@@ -3,6 +3,7 @@
 
 mod asked;
 mod replays;
+mod runs;
 
 use std::collections::{BTreeMap, BTreeSet};
 
@@ -13,7 +14,8 @@ use oracle::journal::is_sound;
 use oracle::read::Refusal;
 use oracle::record::{date_number, read_amount, read_date, DAYS};
 use oracle::rng::Rng;
-use replays::{mistaken, oracle, path, same_by_command, Reader};
+use replays::{same_by_command, Reader};
+use runs::{mistaken, oracle, path};
 
 const TABLE: usize = 7_680;
 

@@ -1,6 +1,7 @@
 //! The files for the replay, read back by this test's own code.
 
 mod replays;
+mod runs;
 
 use std::collections::BTreeSet;
 
@@ -18,7 +19,8 @@ use oracle::replay::{
 use oracle::rng::Rng;
 use oracle::series::{operations, Operation};
 use oracle::series_cases::{series_case, KINDS};
-use replays::{mistaken, path, same_by_command, Reader};
+use replays::{same_by_command, Reader};
+use runs::{mistaken, path};
 
 const TABLE: usize = 7_680;
 

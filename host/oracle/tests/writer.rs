@@ -2,6 +2,7 @@
 //! the values that it refuses. The records are laid out here by this test's own code as well.
 
 mod replays;
+mod runs;
 mod zeros;
 
 use std::collections::BTreeMap;
@@ -15,7 +16,8 @@ use oracle::table_cases::{
 use oracle::values::{Head, Key, Row, Values};
 use oracle::write::valid_case;
 use oracle::writer::{movements, writable, write_statement};
-use replays::{mistaken, path, same_by_command, Reader};
+use replays::{same_by_command, Reader};
+use runs::{mistaken, path};
 use zeros::signed;
 
 /// The writer's answer to an output with room for everything.

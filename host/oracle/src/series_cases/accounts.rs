@@ -84,13 +84,7 @@ impl Account {
 
     /// The next statement of an account at nil, which stays there.
     pub fn next_at_nil(&mut self, rng: &mut Rng) -> Statement {
-        let amount = 1 + rng.below(5_000) as i64;
-        let movements = match rng.below(4) {
-            0 => vec![],
-            1 => vec![(0, 1)],
-            2 => vec![(amount, 0), (-amount, 1)],
-            _ => vec![(0, 0), (-amount, 2), (0, 1), (amount, 0)],
-        };
+        let movements = cancelling(rng);
         self.next_with(rng, &movements)
     }
 
@@ -125,6 +119,17 @@ impl Account {
     fn move_on(&mut self, next: Statement) -> Statement {
         self.last = next.new;
         next
+    }
+}
+
+/// Movements that come to nothing, each an amount and a number of complements.
+pub fn cancelling(rng: &mut Rng) -> Vec<(i64, usize)> {
+    let amount = 1 + rng.below(5_000) as i64;
+    match rng.below(4) {
+        0 => vec![],
+        1 => vec![(0, 1)],
+        2 => vec![(amount, 0), (-amount, 1)],
+        _ => vec![(0, 0), (-amount, 2), (0, 1), (amount, 0)],
     }
 }
 

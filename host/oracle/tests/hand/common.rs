@@ -122,6 +122,15 @@ pub fn empty_statement() -> Sheet {
     ])
 }
 
+/// A statement without movements, of that account, from one date to another.
+pub fn period(account: &[u8; 11], old: &str, new: &str) -> Sheet {
+    let records = vec![
+        balance("01", old, "0000000010000{"),
+        balance("07", new, "0000000010000{"),
+    ];
+    Sheet(records).set(1, 22, account).set(2, 22, account)
+}
+
 /// A statement of so many records whose last is the 07.
 pub fn long_statement(records: usize) -> Sheet {
     let mut lines = vec![movement("05", "050225", "050225", "0000000000000{"); records - 2];

@@ -1,19 +1,10 @@
 //! The earliest old balance date of a file, dates derived by hand.
 
-use crate::common::{balance, empty_statement, worked, Sheet};
+use crate::common::{empty_statement, period, worked, Sheet};
 use oracle::answers::Numbers;
 use oracle::read::{earliest, Refusal};
 
 const LINE_ENDS: [(u64, &[u8]); 3] = [(0, b""), (1, b"\n"), (2, b"\r\n")];
-
-/// A statement without movements, of that account, from one date to another.
-fn period(account: &[u8; 11], old: &str, new: &str) -> Sheet {
-    let records = vec![
-        balance("01", old, "0000000010000{"),
-        balance("07", new, "0000000010000{"),
-    ];
-    Sheet(records).set(1, 22, account).set(2, 22, account)
-}
 
 /// A file of statements of one account, each on one day.
 fn days(dates: &[&str]) -> Sheet {

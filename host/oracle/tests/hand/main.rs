@@ -11,6 +11,7 @@ mod earliest;
 mod journal;
 mod listing;
 mod newest;
+mod night;
 mod nil;
 #[path = "../outcomes/mod.rs"]
 mod outcomes;

@@ -1,8 +1,9 @@
 //! The files for a replay, for both tests that read them back by code of their own.
 
 use std::io;
-use std::path::{Path, PathBuf};
-use std::process::{Command, Output};
+use std::path::Path;
+
+use crate::runs::{oracle, path};
 
 /// What is left of a file.
 pub struct Reader<'a>(pub &'a [u8]);
@@ -33,16 +34,6 @@ impl<'a> Reader<'a> {
     }
 }
 
-pub fn path(name: &str) -> PathBuf {
-    PathBuf::from(env!("CARGO_TARGET_TMPDIR")).join(name)
-}
-
-/// Runs the command.
-pub fn oracle(arguments: &[&str]) -> Output {
-    let mut command = Command::new(env!("CARGO_BIN_EXE_oracle"));
-    command.args(arguments).output().unwrap()
-}
-
 /// The command writes the same file as the call and says the same line.
 pub fn same_by_command(verb: &str, call: fn(u64, u64, &Path) -> io::Result<String>) {
     let by_call = path(&format!("call.{verb}"));
@@ -52,11 +43,4 @@ pub fn same_by_command(verb: &str, call: fn(u64, u64, &Path) -> io::Result<Strin
     assert_eq!(output.status.code(), Some(0));
     assert_eq!(output.stdout, format!("{line}\n").as_bytes());
     assert!(std::fs::read(&by_call).unwrap() == std::fs::read(&by_command).unwrap());
-}
-
-/// Each mistake in the call ends with 2.
-pub fn mistaken(calls: &[&[&str]]) {
-    for arguments in calls {
-        assert_eq!(oracle(arguments).status.code(), Some(2));
-    }
 }

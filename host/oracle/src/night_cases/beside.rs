@@ -1,0 +1,90 @@
+//! Files of which nothing is stored: ignored, empty, corrected, too large.
+
+use super::months::next_month;
+use super::names::ignored_name;
+use super::plan::{Letter, Plan};
+use crate::damage::giants;
+use crate::rng::Rng;
+use crate::series_cases::accounts::{file, relabelled};
+use crate::valid::Draft;
+
+pub fn add(rng: &mut Rng, plan: &mut Plan) {
+    match rng.below(5) {
+        0 => {
+            plan.send_bytes(rng, Vec::new());
+            plan.tries("empty-file");
+        }
+        1 => corrected(rng, plan),
+        _ => ignored(rng, plan),
+    }
+}
+
+/// Another statement of a month that is held: it is not held itself, and it does not follow.
+fn corrected(rng: &mut Rng, plan: &mut Plan) {
+    let held = |index: &usize| plan.chains[*index].held > 0;
+    let places: Vec<usize> = (0..plan.chains.len()).filter(held).collect();
+    if places.is_empty() {
+        return;
+    }
+    let chain = &plan.chains[rng.pick(&places)];
+    let statement = &chain.statements[rng.index(chain.held)];
+    let other = relabelled(rng, statement);
+    // A statement without movements has no label.
+    if other.records != statement.records {
+        plan.send(rng, vec![other], None);
+        plan.tries("corrected");
+    }
+}
+
+/// A file with a name that is not taken: what is sent already, or the month after the last.
+fn ignored(rng: &mut Rng, plan: &mut Plan) {
+    let bytes = match plan.some_letter(rng) {
+        Some(index) if rng.one_in(3) => plan.letters[index].bytes.clone(),
+        _ => month_after(rng, plan),
+    };
+    let name = ignored_name(rng, &plan.used_names);
+    plan.used_names.insert(name.clone());
+    plan.letters.push(Letter {
+        name,
+        line_end: 0,
+        statements: Vec::new(),
+        bytes,
+        story: None,
+    });
+    plan.tries("ignored-name");
+}
+
+/// A file of the month that follows the last one of an account.
+fn month_after(rng: &mut Rng, plan: &Plan) -> Vec<u8> {
+    let chain = &plan.chains[rng.index(plan.chains.len())];
+    match chain.statements.last() {
+        Some(last) => {
+            let next = next_month(rng, &chain.key, last.new, last.new.day + 30, false);
+            file(rng.below(3), &[&next])
+        }
+        None => Vec::new(),
+    }
+}
+
+/// A file of more than 20,000 records.
+pub fn add_too_many_records(rng: &mut Rng, plan: &mut Plan) {
+    add_giant(rng, plan, "records-20001");
+    plan.tries("too-many-records");
+}
+
+/// A file with a statement of 10,000 records.
+pub fn add_long_statement(rng: &mut Rng, plan: &mut Plan) {
+    add_giant(rng, plan, "10000th-is-07");
+    plan.tries("statement-too-long");
+}
+
+fn add_giant(rng: &mut Rng, plan: &mut Plan, name: &str) {
+    let draft = Draft {
+        line_end: rng.below(3),
+        lines: Vec::new(),
+    };
+    let list = giants();
+    let giant = list.iter().find(|recipe| recipe.name == name);
+    let case = giant.and_then(|recipe| recipe.damage(rng, draft));
+    plan.send_bytes(rng, case.expect("a large file of that name").bytes);
+}

@@ -1,0 +1,218 @@
+//! A night while it is made.
+
+use std::collections::BTreeSet;
+use std::ops::Range;
+
+use super::months::Months;
+use super::names::{almost_ignored, new_name};
+use crate::cash_cases::statements::on;
+use crate::rng::Rng;
+use crate::series_cases::accounts::{apart, file, ZONES};
+use crate::valid::{key, Key, Statement};
+
+/// An account's statements in a row: the first are held before the night, the others come in it.
+pub struct Chain {
+    pub key: Key,
+    pub statements: Vec<Statement>,
+    /// How many of them are held before.
+    pub held: usize,
+    /// The month of the first.
+    pub from: usize,
+    /// The story it belongs to. Accounts of one story stand in the same files.
+    pub story: usize,
+    /// Whether the journal holds just these in the end, given room.
+    pub promised: bool,
+}
+
+/// A file that waits, and the statements that it is made of.
+#[derive(Clone)]
+pub struct Letter {
+    pub name: String,
+    pub line_end: u64,
+    pub statements: Vec<Statement>,
+    pub bytes: Vec<u8>,
+    /// The story that it belongs to, if it may be sent again, cut or damaged.
+    pub story: Option<usize>,
+}
+
+/// What waits, what is held before, what is tried.
+pub struct Plan {
+    months: Months,
+    /// Whether no account of a story has statements that are held before.
+    pub first_night: bool,
+    pub chains: Vec<Chain>,
+    pub letters: Vec<Letter>,
+    pub tries: BTreeSet<&'static str>,
+    pub used_names: BTreeSet<String>,
+    /// How many stories there are; the last one is being made.
+    pub stories: usize,
+    /// The latest day that a chain may reach.
+    pub last_day: u64,
+}
+
+impl Plan {
+    pub fn new(rng: &mut Rng) -> Plan {
+        let months = Months::new(rng);
+        Plan {
+            last_day: months.last(),
+            months,
+            first_night: rng.one_in(4),
+            chains: Vec::new(),
+            letters: Vec::new(),
+            tries: BTreeSet::new(),
+            used_names: BTreeSet::new(),
+            stories: 0,
+        }
+    }
+
+    pub fn tries(&mut self, what: &'static str) {
+        self.tries.insert(what);
+    }
+
+    /// The months of most stories in this night, or others.
+    pub fn months(&mut self, rng: &mut Rng) -> Months {
+        let months = if rng.one_in(3) {
+            Months::new(rng)
+        } else {
+            self.months.clone()
+        };
+        self.last_day = self.last_day.max(months.last());
+        months
+    }
+
+    /// How many statements of an account are held before: up to so many.
+    pub fn some_held(&self, rng: &mut Rng, most: usize) -> usize {
+        if self.first_night {
+            0
+        } else {
+            rng.index(most + 1)
+        }
+    }
+
+    /// An account with statements for a row of months, the first of them held. Gives its index.
+    pub fn chain(
+        &mut self,
+        rng: &mut Rng,
+        months: &Months,
+        range: Range<usize>,
+        held: usize,
+    ) -> usize {
+        let key = self.new_key(rng);
+        let statements = months.statements(rng, &key, range.start, range.end);
+        let turn = on("010100");
+        if statements
+            .iter()
+            .any(|one| one.old.day < turn && turn <= one.new.day)
+        {
+            self.tries("turn-of-century");
+        }
+        self.chains.push(Chain {
+            statements,
+            key,
+            held,
+            from: range.start,
+            story: self.stories,
+            promised: true,
+        });
+        self.chains.len() - 1
+    }
+
+    /// A key that no other account has; often it is one zone apart from another.
+    fn new_key(&self, rng: &mut Rng) -> Key {
+        loop {
+            let new = match self.chains.last() {
+                Some(last) if rng.one_in(2) => {
+                    let zone = rng.pick(&ZONES);
+                    apart(rng, &last.key, zone)
+                }
+                _ => key(rng),
+            };
+            if self.chains.iter().all(|one| one.key.bytes() != new.bytes()) {
+                return new;
+            }
+        }
+    }
+
+    /// The statement of an account for a month.
+    pub fn month(&self, chain: usize, month: usize) -> Statement {
+        let chain = &self.chains[chain];
+        chain.statements[month - chain.from].clone()
+    }
+
+    /// From now on it is not known what the journal holds of the accounts of a story.
+    pub fn spoil(&mut self, story: usize) {
+        for chain in self.chains.iter_mut().filter(|one| one.story == story) {
+            chain.promised = false;
+        }
+    }
+
+    /// A name for one more file.
+    fn name(&mut self, rng: &mut Rng) -> String {
+        let name = if rng.one_in(8) {
+            self.tries("almost-ignored-name");
+            almost_ignored(rng, &self.used_names)
+        } else {
+            new_name(rng, &self.used_names)
+        };
+        self.used_names.insert(name.clone());
+        name
+    }
+
+    /// A file of statements, with some line end.
+    pub fn send(&mut self, rng: &mut Rng, statements: Vec<Statement>, story: Option<usize>) {
+        let line_end = rng.below(3);
+        self.send_with(rng, line_end, statements, story);
+    }
+
+    /// The same with a given line end.
+    pub fn send_with(
+        &mut self,
+        rng: &mut Rng,
+        line_end: u64,
+        statements: Vec<Statement>,
+        story: Option<usize>,
+    ) {
+        let bytes = file(line_end, &statements.iter().collect::<Vec<_>>());
+        let name = self.name(rng);
+        self.letters.push(Letter {
+            name,
+            line_end,
+            statements,
+            bytes,
+            story,
+        });
+    }
+
+    /// A file of any bytes.
+    pub fn send_bytes(&mut self, rng: &mut Rng, bytes: Vec<u8>) {
+        let name = self.name(rng);
+        self.letters.push(Letter {
+            name,
+            line_end: 0,
+            statements: Vec::new(),
+            bytes,
+            story: None,
+        });
+    }
+
+    /// Gives the letters from that one on their names anew, the last name to the first.
+    pub fn name_backwards(&mut self, first: usize) {
+        let letters = &mut self.letters[first..];
+        let mut names: Vec<String> = letters.iter().map(|one| one.name.clone()).collect();
+        names.sort_unstable();
+        for (letter, name) in letters.iter_mut().zip(names.into_iter().rev()) {
+            letter.name = name;
+        }
+    }
+
+    /// A letter that may be sent again, cut or damaged.
+    pub fn some_letter(&self, rng: &mut Rng) -> Option<usize> {
+        let fit = |index: &usize| self.letters[*index].story.is_some();
+        let places: Vec<usize> = (0..self.letters.len()).filter(fit).collect();
+        if places.is_empty() {
+            None
+        } else {
+            Some(rng.pick(&places))
+        }
+    }
+}

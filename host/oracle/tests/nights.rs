@@ -1,0 +1,314 @@
+//! Generated nights against what is known of them by how they were made.
+//!
+//! What a journal holds is read out of its entries by this test's own code.
+
+mod runs;
+mod zeros;
+
+use std::collections::{BTreeMap, BTreeSet};
+use std::path::Path;
+
+use oracle::journal::is_sound;
+use oracle::night::{night, Fate, Night};
+use oracle::night_cases::{night_case, Chain, NightCase};
+use oracle::nights::{expected, nights};
+use runs::{mistaken, oracle, path};
+use zeros::signed;
+
+const SEED: u64 = 31;
+const NIGHTS: usize = 300;
+const TABLE: usize = 7_680;
+
+/// What a night may try, and how often it does at least.
+const KINDS: [(&str, usize); 35] = [
+    ("accounts-together", 60),
+    ("almost-ignored-name", 60),
+    ("begins-late", 15),
+    ("corrected", 20),
+    ("cut-alone", 20),
+    ("cut-and-whole", 60),
+    ("cut-between-records", 30),
+    ("cut-between-statements", 20),
+    ("cut-inside-a-record", 30),
+    ("damaged", 60),
+    ("damaged-month", 20),
+    ("empty-file", 20),
+    ("empty-night", 15),
+    ("entries-full", 20),
+    ("first-night", 20),
+    ("held-though-full", 40),
+    ("ignored-name", 60),
+    ("known-account", 60),
+    ("lines-full", 20),
+    ("month-missing", 20),
+    ("new-account", 60),
+    ("retry-of-held", 20),
+    ("retry-other-line-end", 40),
+    ("retry-other-zero", 20),
+    ("retry-overlap", 20),
+    ("retry-same-bytes", 40),
+    ("second-round", 15),
+    ("several-months", 60),
+    ("statement-too-long", 10),
+    ("third-round", 15),
+    ("too-many-records", 10),
+    ("turn-of-century", 40),
+    ("wrong-line-end", 15),
+    ("wrong-order-alone", 15),
+    ("wrong-order-mended", 15),
+];
+
+fn all_nights() -> impl Iterator<Item = (NightCase, Night)> {
+    (0..NIGHTS).map(|index| {
+        let case = night_case(SEED, index);
+        let night = night(&case.journal, &case.incoming);
+        (case, night)
+    })
+}
+
+fn digits(bytes: &[u8]) -> usize {
+    std::str::from_utf8(bytes).unwrap().parse().unwrap()
+}
+
+/// Keys and bodies in the order of the entries.
+fn held(journal: &[u8]) -> Vec<(&[u8], &[u8])> {
+    let entries = journal[..TABLE].chunks(60);
+    let used = entries.take_while(|entry| entry.iter().any(|&byte| byte != b' '));
+    let held = used.map(|entry| {
+        let first = TABLE + 120 * digits(&entry[37..43]);
+        let length = 120 * digits(&entry[43..47]);
+        (&entry[..25], &journal[first..first + length])
+    });
+    held.collect()
+}
+
+/// The records of a chain as they are stored, statement by statement.
+fn stored(chain: &Chain) -> Vec<Vec<u8>> {
+    let bodies = chain.statements.iter().map(|one| one.records.concat());
+    bodies.map(|body| signed(0, &body, b'{')).collect()
+}
+
+/// The whole chain of each account whose files all come, once each and in order; and the account
+/// is said to have begun with its first statement, if nothing of it was held before.
+#[test]
+fn whole_chains_are_held() {
+    let (mut chains, mut statements, mut in_later_rounds) = (0, 0, 0);
+    for (case, night) in all_nights() {
+        for chain in &case.promised {
+            let key = chain.key.bytes();
+            let entries = held(&night.journal).into_iter();
+            let bodies = entries.filter(|(other, _)| *other == key);
+            let bodies: Vec<Vec<u8>> = bodies.map(|(_, body)| body.to_vec()).collect();
+            assert!(bodies == stored(chain), "{:?}", case.tries);
+            let first = chain.statements.first().filter(|_| chain.held == 0);
+            let date = first.map(|first| oracle::record::date_number(first.old.day));
+            let begun = night.begun.iter().find(|begun| begun.key == key);
+            assert_eq!(begun.map(|begun| u64::from(begun.date)), date);
+            chains += 1;
+            statements += chain.statements.len() - chain.held;
+            in_later_rounds += usize::from(night.rounds.get(1) > Some(&0));
+        }
+    }
+    assert!(chains > 250, "{chains}");
+    assert!(statements > 600, "{statements}");
+    assert!(in_later_rounds > 50, "{in_later_rounds}");
+}
+
+/// The journal is sound before and after, and keeps what it held, in its place.
+#[test]
+fn journals_are_sound() {
+    for (case, night) in all_nights() {
+        assert!(is_sound(&case.journal) && is_sound(&night.journal));
+        assert_eq!(case.journal.len(), night.journal.len());
+        assert!(held(&night.journal).starts_with(&held(&case.journal)));
+    }
+}
+
+/// The names in the lists of a night, each list by its own name.
+fn lists(night: &Night) -> BTreeMap<&'static str, Vec<String>> {
+    let lists = expected(night).into_iter().map(|(list, text)| {
+        assert!(text.is_empty() || text.ends_with('\n'));
+        (list, text.lines().map(str::to_string).collect())
+    });
+    lists.collect()
+}
+
+/// Every file that waits is in one list, and the lists are in the order of bytes.
+#[test]
+fn every_file_ends_in_one_place() {
+    for (case, night) in all_nights() {
+        let lists = lists(&night);
+        let mut all = Vec::new();
+        for list in ["done", "refused", "left", "ignored"] {
+            assert!(lists[list]
+                .windows(2)
+                .all(|two| two[0].as_bytes() < two[1].as_bytes()));
+            all.extend(lists[list].clone());
+        }
+        let mut names: Vec<String> = case.incoming.into_iter().map(|file| file.name).collect();
+        names.sort_unstable();
+        all.sort_unstable();
+        assert_eq!(all, names);
+        assert!(names.windows(2).all(|two| two[0] != two[1]));
+    }
+}
+
+/// What is not taken has the names that are not, and only that.
+#[test]
+fn ignored_names() {
+    for (_, night) in all_nights() {
+        let unfinished = |name: &String| {
+            let ends = [".part", ".tmp", ".filepart", "~"];
+            name.starts_with('.') || ends.iter().any(|end| name.ends_with(end))
+        };
+        assert!(night.ignored.iter().all(unfinished));
+        assert!(!night.fates.keys().any(unfinished));
+    }
+}
+
+/// The totals and the status say what the lists say, and as many statements were stored as the
+/// journal has more.
+#[test]
+fn totals_and_status() {
+    for (case, night) in all_nights() {
+        let lists = lists(&night);
+        let [done, refused, left] = ["done", "refused", "left"].map(|list| lists[list].len());
+        let stored = held(&night.journal).len() - held(&case.journal).len();
+        let begins = format!("done {done}, refused {refused}, left {left}, stored {stored}, held ");
+        assert!(lists["totals"][0].starts_with(&begins));
+        assert_eq!(night.rounds.iter().sum::<u64>(), stored as u64);
+        let status = match (left, refused) {
+            (0, 0) => "0",
+            (0, _) => "1",
+            _ => "4",
+        };
+        assert_eq!(lists["status"], [status]);
+    }
+}
+
+/// Every kind of night occurs, and each often enough.
+#[test]
+fn every_kind_occurs() {
+    let mut counts: BTreeMap<&str, usize> = BTreeMap::new();
+    for (case, _) in all_nights() {
+        for what in case.tries {
+            *counts.entry(what).or_default() += 1;
+        }
+    }
+    let known: BTreeSet<&str> = KINDS.iter().map(|(kind, _)| *kind).collect();
+    assert_eq!(counts.keys().copied().collect::<BTreeSet<_>>(), known);
+    for (kind, least) in KINDS {
+        assert!(counts[kind] >= least, "{kind} {}", counts[kind]);
+    }
+}
+
+/// Every refusal of a file occurs but 1, and each that leaves it; files that are held, rounds
+/// after the first, accounts that begin.
+#[test]
+fn every_end_occurs() {
+    let mut counts: BTreeMap<u32, usize> = BTreeMap::new();
+    let (mut held, mut mixed, mut later_rounds, mut begun) = (0, 0, [0; 2], 0);
+    for (_, night) in all_nights() {
+        for fate in night.fates.values() {
+            match fate {
+                Fate::Done(done) if done.stored > 0 => mixed += usize::from(done.held > 0),
+                Fate::Done(done) => held += usize::from(done.held > 0),
+                Fate::Refused(refusal) | Fate::Left(refusal) => {
+                    *counts.entry(refusal.number).or_default() += 1;
+                }
+            }
+        }
+        for (later, count) in later_rounds.iter_mut().enumerate() {
+            *count += usize::from(night.rounds.get(later + 1) > Some(&0));
+        }
+        begun += night.begun.len();
+    }
+    let numbers: Vec<u32> = counts.keys().copied().collect();
+    assert_eq!(numbers, (2..=15).chain(22..=24).collect::<Vec<_>>());
+    assert!(counts.values().all(|&count| count >= 10), "{counts:?}");
+    assert!(held > 150 && mixed > 30, "{held} {mixed}");
+    assert!(
+        later_rounds[0] > 40 && later_rounds[1] > 10,
+        "{later_rounds:?}"
+    );
+    assert!(begun > 200, "{begun}");
+}
+
+/// The folders of a command, each file by its path.
+fn contents(directory: &Path) -> BTreeMap<String, Vec<u8>> {
+    let mut found = BTreeMap::new();
+    for entry in std::fs::read_dir(directory).unwrap() {
+        let path = entry.unwrap().path();
+        if path.is_dir() {
+            found.extend(contents(&path));
+            found.insert(format!("{}/", path.display()), Vec::new());
+        } else {
+            let bytes = std::fs::read(&path).unwrap();
+            found.insert(path.display().to_string(), bytes);
+        }
+    }
+    found
+}
+
+/// A folder that is not there.
+fn fresh(name: &str) -> std::path::PathBuf {
+    let directory = path(name);
+    if directory.exists() {
+        std::fs::remove_dir_all(&directory).unwrap();
+    }
+    directory
+}
+
+/// Each folder has the journals, the files that wait and what is expected, and nothing else.
+#[test]
+fn nights_are_written() {
+    let directory = fresh("nights");
+    nights(SEED, 12, &directory).unwrap();
+    let mut found = contents(&directory);
+    for index in 0..12 {
+        let folder = directory.join(format!("{index:03}"));
+        let case = night_case(SEED, index);
+        let night = night(&case.journal, &case.incoming);
+        let mut take = |name: &str| {
+            let path = folder.join(name).display().to_string();
+            found.remove(&path).unwrap_or_else(|| panic!("{path}"))
+        };
+        assert!(take("journal") == case.journal);
+        assert!(take("expected.journal") == night.journal);
+        for file in &case.incoming {
+            assert!(take(&format!("incoming/{}", file.name)) == file.bytes);
+        }
+        for (name, text) in expected(&night) {
+            assert_eq!(take(&format!("expected.{name}")), text.as_bytes());
+        }
+        take("incoming/");
+        take("");
+    }
+    assert!(found.is_empty());
+}
+
+/// The same seed gives the same bytes, another one others; a folder that is there is not written.
+#[test]
+fn nights_command() {
+    let (one, two, other) = (fresh("nights-1"), fresh("nights-2"), fresh("nights-3"));
+    let mut lines = Vec::new();
+    for (seed, directory) in [("8", &one), ("8", &two), ("9", &other)] {
+        let output = oracle(&["nights", seed, "8", directory.to_str().unwrap()]);
+        assert_eq!(output.status.code(), Some(0));
+        lines.push(output.stdout);
+    }
+    let bytes = |directory: &Path| {
+        let all = contents(directory).into_iter();
+        let from = directory.display().to_string().len();
+        all.map(|(path, bytes)| (path[from..].to_string(), bytes))
+            .collect::<Vec<_>>()
+    };
+    assert!(bytes(&one) == bytes(&two) && lines[0] == lines[1]);
+    assert!(bytes(&one) != bytes(&other) && lines[0] != lines[2]);
+    let there = one.to_str().unwrap();
+    mistaken(&[
+        &["nights", "8", "1", there],
+        &["nights", "x", "1", there],
+        &["nights", "8", there],
+    ]);
+}
