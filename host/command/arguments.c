@@ -30,7 +30,10 @@ static const struct option_form options[] = {
     {OPTION_MODE, "mode", "OCTAL", "the new journal's rights, as 640; without it they are 600"},
     {OPTION_WAIT, "wait", "SECONDS",
      "gives up after so many seconds where another command\n"
-     "holds the journal, for each file; without it, waits as\nlong as it takes"},
+     "holds the journal or the folder, for each file; without\nit, waits as long as it takes"},
+    {OPTION_GO_ON, "go-on", NULL,
+     "delivers the others where a file cannot be read or moved;\n"
+     "without it, nothing younger is delivered after it"},
     {OPTION_WHOLE, "whole", NULL, "amounts as whole numbers of the last decimal place"},
     {OPTION_SVG, "svg", "FILE",
      "draws it too, to this file. It may be an older picture of\n"
@@ -78,6 +81,23 @@ static const struct subcommand subcommands[] = {
      .journals = 1,
      .first_file = 1,
      .run = deliver_command},
+    {.name = "intake",
+     .operands = "JOURNAL INCOMING DONE REFUSED",
+     .summary = "delivers the files of a folder and puts them away",
+     .text = "Delivers the files that wait in the folder INCOMING, those with the earliest old balance date first,\n"
+             "in rounds until nothing more can be stored. Moves what is stored or held to DONE, and what is\n"
+             "refused by its own fault (1 to 15) to REFUSED, with its answer in NAME.answer beside it. What the\n"
+             "journal cannot take now (22 to 24) is left. No file is overwritten: a number is put behind its name.\n"
+             "Names that begin with . or end in .part, .tmp, .filepart or ~ are files under way, and are left.\n"
+             "\n"
+             "Prints 'FILE: stored S, held H, moved to PATH' for each file, last 'JOURNAL: done D, refused R,\n"
+             "left L, stored S, held H' and 'JOURNAL: begins ACCOUNT DATE' for each account that is new.\n",
+     .options = OPTION_GO_ON | OPTION_WAIT,
+     .least = 4,
+     .most = 4,
+     .journals = 1,
+     .first_file = NO_FILES,
+     .run = intake_command},
     {.name = "entries",
      .operands = "JOURNAL",
      .summary = "lists the statements that the journal holds",
@@ -221,6 +241,7 @@ static bool take_option(const struct option_form *form, const char *value, struc
     switch (form->option) {
     case OPTION_HELP: arguments->help = true; break;
     case OPTION_BLANK_EXISTING: arguments->blank_existing = true; break;
+    case OPTION_GO_ON: arguments->go_on = true; break;
     case OPTION_WHOLE: arguments->whole = true; break;
     case OPTION_JSON: arguments->json = true; break;
     case OPTION_SVG:

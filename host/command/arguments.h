@@ -18,7 +18,8 @@ enum {
     OPTION_WHOLE = 1 << 4,
     OPTION_SVG = 1 << 5,
     OPTION_JSON = 1 << 6,
-    OPTION_HELP = 1 << 7
+    OPTION_GO_ON = 1 << 7,
+    OPTION_HELP = 1 << 8
 };
 
 struct arguments;
@@ -50,6 +51,7 @@ struct arguments {
     bool whole;
     const char *picture; /* where to draw; NULL for nowhere */
     bool json;
+    bool go_on;
     bool help;
 };
 

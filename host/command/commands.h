@@ -7,6 +7,7 @@
 int open_command(const struct arguments *arguments);
 int check_command(const struct arguments *arguments);
 int deliver_command(const struct arguments *arguments);
+int intake_command(const struct arguments *arguments);
 int entries_command(const struct arguments *arguments);
 int accounts_command(const struct arguments *arguments);
 int status_command(const struct arguments *arguments);

@@ -6,20 +6,30 @@
 #include "say.h"
 #include "status.h"
 
+/* Entry after entry, up to the first that there is not. */
+static size_t list_entries(const struct bytes *journal, struct entry entries[CROWNHAZEL_MOST_ENTRIES]) {
+    size_t count = 0;
+    while (count < CROWNHAZEL_MOST_ENTRIES) {
+        struct entry *entry = &entries[count];
+        uint64_t listed = crownhazel_listed(journal->first, journal->length, count + 1, entry->row, sizeof entry->row);
+        if (crownhazel_is_refused(listed)) {
+            break;
+        }
+        entry->first_line = crownhazel_first_line(listed);
+        entry->records = crownhazel_records(listed);
+        count++;
+    }
+    return count;
+}
+
 uint64_t read_contents(const struct bytes *journal, struct contents *contents) {
     uint64_t used = crownhazel_used(journal->first, journal->length);
     if (crownhazel_is_refused(used)) {
         return used;
     }
-    *contents = (struct contents){.count = crownhazel_entries_used(used),
-                                  .lines_used = crownhazel_lines_used(used),
-                                  .lines = crownhazel_lines(used)};
-    for (size_t i = 0; i < contents->count; i++) {
-        struct entry *entry = &contents->entries[i];
-        uint64_t listed = crownhazel_listed(journal->first, journal->length, i + 1, entry->row, sizeof entry->row);
-        entry->first_line = crownhazel_first_line(listed);
-        entry->records = crownhazel_records(listed);
-    }
+    contents->count = list_entries(journal, contents->entries);
+    contents->lines_used = crownhazel_lines_used(used);
+    contents->lines = crownhazel_lines(used);
     return used;
 }
 
@@ -43,8 +53,34 @@ int look_into(const char *name, struct bytes *journal, struct contents *contents
     return status;
 }
 
-static bool same_account(const struct entry *one, const struct entry *other) {
+bool same_account(const struct entry *one, const struct entry *other) {
     return memcmp(one->row, other->row, ROW_KEY) == 0;
+}
+
+bool has_account(const struct entry *entries, size_t count, const struct entry *entry) {
+    size_t at = 0;
+    while (at < count && !same_account(&entries[at], entry)) {
+        at++;
+    }
+    return at < count;
+}
+
+/* Dates stand as digits, the year first. */
+bool begins_before(const struct entry *one, const struct entry *other) {
+    return memcmp(one->row + ROW_OLD_DATE, other->row + ROW_OLD_DATE, ROW_NEW_DATE - ROW_OLD_DATE) < 0;
+}
+
+/* What was stored last stands last. A delivery leaves a sound journal, so there is no test here. */
+size_t begun_by(const struct bytes *journal, size_t stored, struct entry begun[CROWNHAZEL_MOST_ENTRIES]) {
+    struct entry entries[CROWNHAZEL_MOST_ENTRIES];
+    size_t count = stored == 0 ? 0 : list_entries(journal, entries);
+    size_t found = 0;
+    for (size_t i = count - stored; i < count; i++) {
+        if (!has_account(entries, i, &entries[i])) {
+            begun[found++] = entries[i];
+        }
+    }
+    return found;
 }
 
 /* The account of an entry, which is a new one where none has its key. */

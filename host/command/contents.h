@@ -2,6 +2,7 @@
 #ifndef COMMAND_CONTENTS_H
 #define COMMAND_CONTENTS_H
 
+#include <stdbool.h>
 #include <stddef.h>
 #include <stdint.h>
 
@@ -40,6 +41,16 @@ uint64_t read_contents(const struct bytes *journal, struct contents *contents);
 /* Reads a journal, tests it and takes what it holds. Its bytes are the caller's to let go. Answers a status, with a
  * message where it is not STATUS_DONE; then there is nothing to let go. */
 int look_into(const char *name, struct bytes *journal, struct contents *contents);
+
+/* Whether two entries are of one account, whether one among several is of another's, and whether the old date of one is
+ * earlier. */
+bool same_account(const struct entry *one, const struct entry *other);
+bool has_account(const struct entry *entries, size_t count, const struct entry *entry);
+bool begins_before(const struct entry *one, const struct entry *other);
+
+/* The first entry of each account that the last so many entries of a sound journal have begun; answers their number.
+ */
+size_t begun_by(const struct bytes *journal, size_t stored, struct entry begun[CROWNHAZEL_MOST_ENTRIES]);
 
 /* An account: its first and its last entry, counted from 0, and how many it has. */
 struct account {

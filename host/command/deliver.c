@@ -4,6 +4,7 @@
 #include "commands.h"
 #include "contents.h"
 #include "crownhazel.h"
+#include "deliver.h"
 #include "journal.h"
 #include "say.h"
 #include "status.h"
@@ -29,30 +30,31 @@ static int keep(struct place *place, const struct bytes *journal, uint64_t deliv
 }
 
 /* Delivers to a copy of the journal in memory. The locks are held, and let go before anything is said of the file. */
-static int deliver_held(struct place *place, struct bytes *journal, const struct input *input, uint64_t *delivered) {
-    *delivered = delivered_to(journal, input);
-    return crownhazel_is_refused(*delivered) ? STATUS_DONE : keep(place, journal, *delivered);
+static int deliver_held(struct place *place, struct bytes *journal, const struct input *input,
+                        struct delivered *delivered) {
+    delivered->answer = delivered_to(journal, input);
+    delivered->lines = lines_of(journal);
+    if (crownhazel_is_refused(delivered->answer)) {
+        return STATUS_DONE;
+    }
+    delivered->begun_count = begun_by(journal, crownhazel_stored(delivered->answer), delivered->begun);
+    return keep(place, journal, delivered->answer);
 }
 
-static int deliver_input(const struct arguments *arguments, const struct input *input, uint64_t *delivered) {
+int deliver_input(const struct arguments *arguments, const struct input *input, struct delivered *delivered) {
     struct place place;
     struct bytes journal;
     struct patience patience = patience_of(arguments);
-    size_t lines = 0;
     int status = find_existing_journal(arguments->operands[0], &place);
     if (status != STATUS_DONE) {
         return status;
     }
     status = hold_journal(&place, &patience, &journal);
     if (status == STATUS_DONE) {
-        lines = lines_of(&journal);
         status = deliver_held(&place, &journal, input, delivered);
         let_go(&journal);
     }
     leave_place(&place);
-    if (status == STATUS_DONE && crownhazel_is_refused(*delivered)) {
-        return refused_by(input->name, *delivered, arguments->operands[0], lines);
-    }
     return status;
 }
 
@@ -60,7 +62,7 @@ static int deliver_input(const struct arguments *arguments, const struct input *
  * is on the disk. */
 static int deliver_file(const struct arguments *arguments, const char *name) {
     struct input input;
-    uint64_t delivered = 0;
+    struct delivered delivered;
     if (!read_input(name, arguments->line_end, &input)) {
         return STATUS_SYSTEM;
     }
@@ -69,7 +71,11 @@ static int deliver_file(const struct arguments *arguments, const char *name) {
     if (status != STATUS_DONE) {
         return status;
     }
-    return answer(name, "stored %" PRIu32 ", held %" PRIu32, crownhazel_stored(delivered), crownhazel_held(delivered));
+    if (crownhazel_is_refused(delivered.answer)) {
+        return refused_by(name, delivered.answer, arguments->operands[0], delivered.lines);
+    }
+    return answer(name, "stored %" PRIu32 ", held %" PRIu32, crownhazel_stored(delivered.answer),
+                  crownhazel_held(delivered.answer));
 }
 
 int deliver_command(const struct arguments *arguments) {

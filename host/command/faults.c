@@ -12,6 +12,7 @@
  * CROWNHAZEL_FAULT_LOG names a file to which the name of each call is appended, with '!' after it where the fault
  * came. */
 #define _GNU_SOURCE
+#include <dirent.h>
 #include <errno.h>
 #include <fcntl.h>
 #include <signal.h>
@@ -42,8 +43,10 @@ int __real_lstat(const char *path, struct stat *status);
 int __real_memfd_create(const char *name, unsigned flags);
 int __real_mkostemps(char *template, int ending, int flags);
 int __real_open(const char *path, int flags, ...);
+DIR *__real_opendir(const char *path);
 int __real_pipe2(int ends[2], int flags);
 ssize_t __real_read(int descriptor, void *into, size_t room);
+struct dirent *__real_readdir(DIR *folder);
 int __real_rename(const char *from, const char *to);
 int __real_renameat2(int from_folder, const char *from, int to_folder, const char *to, unsigned flags);
 int __real_unlink(const char *path);
@@ -68,8 +71,10 @@ int __wrap_lstat(const char *path, struct stat *status);
 int __wrap_memfd_create(const char *name, unsigned flags);
 int __wrap_mkostemps(char *template, int ending, int flags);
 int __wrap_open(const char *path, int flags, ...);
+DIR *__wrap_opendir(const char *path);
 int __wrap_pipe2(int ends[2], int flags);
 ssize_t __wrap_read(int descriptor, void *into, size_t room);
+struct dirent *__wrap_readdir(DIR *folder);
 int __wrap_rename(const char *from, const char *to);
 int __wrap_renameat2(int from_folder, const char *from, int to_folder, const char *to, unsigned flags);
 int __wrap_unlink(const char *path);
@@ -256,6 +261,17 @@ int __wrap_memfd_create(const char *name, unsigned flags) {
 int __wrap_mkostemps(char *template, int ending, int flags) {
     int result;
     return is_kept_from("mkostemps", &result) ? result : __real_mkostemps(template, ending, flags);
+}
+
+DIR *__wrap_opendir(const char *path) {
+    int result;
+    return is_kept_from("opendir", &result) ? NULL : __real_opendir(path);
+}
+
+/* The end of the folder where it is skipped. */
+struct dirent *__wrap_readdir(DIR *folder) {
+    int result;
+    return is_kept_from("readdir", &result) ? NULL : __real_readdir(folder);
 }
 
 int __wrap_pipe2(int ends[2], int flags) {

@@ -91,19 +91,37 @@ static uint64_t line_end_of(const struct input *input, enum line_end chosen) {
     return after == '\r' ? LINE_END_CRLF : by_length(input->length);
 }
 
+/* What comes of a reading. */
+static bool finish(bool good, enum line_end chosen, struct input *input) {
+    if (good) {
+        input->line_end = line_end_of(input, chosen);
+    } else {
+        failed(input->name, "cannot be read");
+        let_go(&input->kept);
+    }
+    return good;
+}
+
 bool read_input(const char *name, enum line_end chosen, struct input *input) {
     *input = (struct input){.name = name};
-    if (is_standard_input(name) ? read_all(STDIN_FILENO, input) : read_named(name, input)) {
-        input->line_end = line_end_of(input, chosen);
-        return true;
-    }
-    failed(name, "cannot be read");
-    let_go(&input->kept);
-    return false;
+    return finish(is_standard_input(name) ? read_all(STDIN_FILENO, input) : read_named(name, input), chosen, input);
+}
+
+bool read_descriptor(const char *name, int descriptor, struct input *input) {
+    *input = (struct input){.name = name};
+    return finish(read_all(descriptor, input), LINE_END_AUTO, input);
 }
 
 bool is_whole(const struct input *input) {
     return input->length == input->kept.length;
+}
+
+uint64_t earliest_day(const struct input *input) {
+    if (!is_whole(input)) {
+        return 0;
+    }
+    uint64_t earliest = crownhazel_earliest(input->line_end, input->kept.first, input->kept.length);
+    return crownhazel_is_refused(earliest) ? 0 : crownhazel_day_of(earliest);
 }
 
 uint64_t checked(const struct input *input) {

@@ -30,8 +30,14 @@ struct input {
  * shows. False with a message where it cannot be read. */
 bool read_input(const char *name, enum line_end chosen, struct input *input);
 
+/* The same of a file that is open, whose line end is what it shows. */
+bool read_descriptor(const char *name, int descriptor, struct input *input);
+
 /* Whether the whole file is kept. */
 bool is_whole(const struct input *input);
+
+/* The earliest old balance date of its statements, YYYYMMDD; 0 where it has none or is refused. */
+uint64_t earliest_day(const struct input *input);
 
 /* What the check says of the file: of one that is not kept whole, the refusal of its length. */
 uint64_t checked(const struct input *input);

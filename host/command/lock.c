@@ -82,7 +82,8 @@ static enum attempt wait_for(int descriptor, const struct patience *patience) {
     return errno == EINTR ? IN_USE : FAILED;
 }
 
-static enum attempt take_lock(int descriptor, const struct patience *patience) {
+/* `what` is what another command holds, for whoever looks at the terminal. */
+static enum attempt take_lock(int descriptor, const char *what, const struct patience *patience) {
     int status;
     do {
         status = flock(descriptor, LOCK_EX | LOCK_NB);
@@ -93,7 +94,7 @@ static enum attempt take_lock(int descriptor, const struct patience *patience) {
     if (errno != EWOULDBLOCK) {
         return FAILED;
     }
-    show_passing("waiting: another command holds the journal");
+    show_passing("waiting: another command holds the %s", what);
     return is_over(patience) ? IN_USE : wait_for(descriptor, patience);
 }
 
@@ -132,7 +133,7 @@ static enum attempt open_locked(const char *path, bool lock, int flags, const st
         }
         enum attempt attempt = look_at(*descriptor, lock);
         if (attempt == TAKEN) {
-            attempt = take_lock(*descriptor, patience);
+            attempt = take_lock(*descriptor, "journal", patience);
         }
         if (attempt == TAKEN && names_file(path, *descriptor)) {
             return TAKEN;
@@ -147,14 +148,17 @@ static enum attempt open_locked(const char *path, bool lock, int flags, const st
     }
 }
 
+static int in_use(const char *name, const char *what, const struct patience *patience) {
+    complain(name, "another command holds the %s: %u seconds were waited; try again", what, patience->seconds);
+    return STATUS_SYSTEM;
+}
+
 static int not_locked(const struct place *place, const struct patience *patience, enum attempt attempt,
                       const char *what, const char *path) {
     if (attempt == IN_USE) {
-        complain(place->name, "another command holds the journal: %u seconds were waited; try again",
-                 patience->seconds);
-    } else {
-        complain(place->name, "%s %s cannot be had: %s", what, path, strerror(errno));
+        return in_use(place->name, "journal", patience);
     }
+    complain(place->name, "%s %s cannot be had: %s", what, path, strerror(errno));
     return STATUS_SYSTEM;
 }
 
@@ -182,4 +186,13 @@ int take_file_lock(struct place *place, const struct patience *patience) {
         return STATUS_DONE;
     }
     return attempt == NOT_RIGHT ? no_file(place) : not_locked(place, patience, attempt, "the journal", place->path);
+}
+
+int take_folder_lock(const char *name, int descriptor, const struct patience *patience) {
+    enum attempt attempt = take_lock(descriptor, "folder", patience);
+    wipe_passing();
+    if (attempt == TAKEN) {
+        return STATUS_DONE;
+    }
+    return attempt == IN_USE ? in_use(name, "folder", patience) : failed(name, "the folder cannot be locked");
 }

@@ -27,6 +27,9 @@ int take_name_lock(struct place *place, const struct patience *patience);
 /* Opens the journal's file as it is now, and locks it too. */
 int take_file_lock(struct place *place, const struct patience *patience);
 
+/* Locks a folder that is open, against others who do so; the lock ends with the descriptor. */
+int take_folder_lock(const char *name, int descriptor, const struct patience *patience);
+
 /* Whether a path names the file of a descriptor. Where it names another one or none, errno is 0; where that cannot be
  * told, it is not. */
 bool names_file(const char *path, int descriptor);

@@ -29,11 +29,6 @@ static struct slice take_file(struct source *source) {
     return take_bytes(source, files, MOST_FILE);
 }
 
-/* The date in bits 0 to 39. One that does not fit shows in the whole number. */
-static uint32_t first_date(uint64_t number) {
-    return (uint32_t)(number & ((UINT64_C(1) << 40) - 1));
-}
-
 /* The answer that the header takes out of a number. */
 static struct answer unpacked(char call, uint64_t number) {
     struct answer answer = {.kind = crownhazel_kind(number)};
@@ -57,7 +52,7 @@ static struct answer unpacked(char call, uint64_t number) {
     } else if (call == 'R') {
         answer.a = crownhazel_records_in(number);
     } else if (call == 'F') {
-        answer.a = first_date(number);
+        answer.a = (uint32_t)crownhazel_day_of(number); /* one that does not fit shows in the whole number */
     }
     return answer;
 }

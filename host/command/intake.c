@@ -1,0 +1,290 @@
+/* The night's job: delivers the files that wait in a folder, oldest first, and puts them away by their answers. */
+#define _GNU_SOURCE
+#include <inttypes.h>
+#include <stdio.h>
+#include <stdlib.h>
+#include <unistd.h>
+
+#include "commands.h"
+#include "contents.h"
+#include "crownhazel.h"
+#include "deliver.h"
+#include "folders.h"
+#include "forms.h"
+#include "journal.h"
+#include "say.h"
+#include "status.h"
+#include "waiting.h"
+
+/* One run: what it works on, and what has come of it so far. */
+struct night {
+    const struct arguments *arguments;
+    const char *journal;
+    struct folders folders;
+    struct waiting waiting;
+    struct contents before;                      /* what the journal held when the run began */
+    size_t done, refused;                        /* files */
+    uint64_t stored, held;                       /* statements of the files that are done */
+    struct entry begun[CROWNHAZEL_MOST_ENTRIES]; /* the first entry of each account that began in this run */
+    size_t begun_count;
+    int status;
+    bool ended; /* nothing more is delivered */
+};
+
+/* Something went wrong with one file. What may be in it nobody knows, so nothing younger is delivered after it, unless
+ * the caller wants that. */
+static void pass_over(struct night *night, struct waiting_file *file, int status) {
+    file->fate = PASSED_OVER;
+    night->status = worse(night->status, status);
+    night->ended = night->ended || !night->arguments->go_on;
+}
+
+static void note_begun(struct night *night, const struct delivered *delivered) {
+    for (size_t i = 0; i < delivered->begun_count && night->begun_count < CROWNHAZEL_MOST_ENTRIES; i++) {
+        night->begun[night->begun_count++] = delivered->begun[i];
+    }
+}
+
+/* Stored or held, and on the disk. */
+static void put_to_done(struct night *night, struct waiting_file *file, int descriptor,
+                        const struct delivered *delivered) {
+    char *moved = NULL;
+    uint32_t stored = crownhazel_stored(delivered->answer), held = crownhazel_held(delivered->answer);
+    night->stored += stored;
+    night->held += held;
+    note_begun(night, delivered);
+    int status = move_to_done(&night->folders, file->path, descriptor, &moved);
+    night->done += moved != NULL;
+    if (status == STATUS_DONE) {
+        file->fate = MOVED;
+        status = answer(file->path, "stored %" PRIu32 ", held %" PRIu32 ", moved to %s", stored, held, moved);
+        night->status = worse(night->status, status);
+    } else {
+        pass_over(night, file, status);
+    }
+    free(moved);
+}
+
+/* The line that stands beside a refused file. */
+static void write_answer(FILE *out, const void *what) {
+    const uint64_t *refusal = what;
+    fprintf(out, "refused with %" PRIu32 " at record %" PRIu32 ": %s\n", crownhazel_refusal(*refusal),
+            crownhazel_record(*refusal), crownhazel_words(crownhazel_refusal(*refusal)));
+}
+
+/* Refused by the file's own fault. */
+static void put_to_refused(struct night *night, struct waiting_file *file, int descriptor, uint64_t refusal) {
+    struct bytes beside;
+    char *moved = NULL;
+    char *where = NULL;
+    if (!take_text(write_answer, &refusal, &beside)) {
+        pass_over(night, file, failed(file->path, "no memory for the answer"));
+        return;
+    }
+    int status = move_to_refused(&night->folders, file->path, descriptor, &beside, &moved);
+    night->refused += moved != NULL;
+    if (status == STATUS_DONE && asprintf(&where, "moved to %s", moved) >= 0) {
+        file->fate = MOVED;
+        night->status = worse(night->status, refused_for(file->path, refusal, where));
+    } else {
+        pass_over(night, file, status);
+    }
+    free(where);
+    free(moved);
+    let_go(&beside);
+}
+
+/* What the library has said of a file decides where it goes. */
+static void put_away(struct night *night, struct waiting_file *file, int descriptor,
+                     const struct delivered *delivered) {
+    uint64_t answer = delivered->answer;
+    int status = crownhazel_is_refused(answer) ? status_of_refusal(crownhazel_refusal(answer)) : STATUS_DONE;
+    if (status == STATUS_DONE) {
+        put_to_done(night, file, descriptor, delivered);
+    } else if (status == STATUS_FILE_REFUSED) {
+        put_to_refused(night, file, descriptor, answer);
+    } else if (status == STATUS_JOURNAL_REFUSES) {
+        file->refusal = answer;
+        file->lines = delivered->lines;
+    } else {
+        night->status = worse(night->status, refused_by(file->path, answer, night->journal, delivered->lines));
+        night->ended = true;
+    }
+}
+
+/* Delivers one file. What the journal's own file does to it ends the run: the others would fare no better. */
+static void take_file(struct night *night, struct waiting_file *file) {
+    struct input input;
+    struct delivered delivered;
+    int descriptor;
+    if (!open_waiting(file, &input, &descriptor)) {
+        pass_over(night, file, STATUS_SYSTEM);
+        return;
+    }
+    int status = deliver_input(night->arguments, &input, &delivered);
+    let_go(&input.kept);
+    if (status != STATUS_DONE) {
+        night->status = worse(night->status, status);
+        night->ended = true;
+    } else if (was_changed(file, descriptor)) {
+        complain(file->path, "another program has written to it during the delivery; it is left in place");
+        pass_over(night, file, STATUS_SYSTEM);
+    } else {
+        put_away(night, file, descriptor, &delivered);
+    }
+    close(descriptor); /* nothing was written through it */
+}
+
+static bool is_known(const struct night *night, const struct entry *entry) {
+    return has_account(night->before.entries, night->before.count, entry) ||
+           has_account(night->begun, night->begun_count, entry);
+}
+
+/* The file that another one has to wait for: with it an account would begin that has an earlier statement there, which
+ * could never be stored then. NULL where there is none; `account` is that of the account otherwise. */
+static const struct waiting_file *find_behind(const struct night *night, const struct waiting_file *file,
+                                              const struct entry **account) {
+    const struct waiting_file *behind = NULL;
+    for (size_t i = 0; behind == NULL && i < file->begins.count; i++) {
+        *account = &file->begins.list[i];
+        behind = is_known(night, *account) ? NULL : waits_behind(&night->waiting, file, *account);
+    }
+    return behind;
+}
+
+/* Every file that waits, oldest first. */
+static void run_round(struct night *night) {
+    struct waiting *waiting = &night->waiting;
+    const struct entry *account;
+    for (size_t i = 0; i < waiting->count && !night->ended; i++) {
+        struct waiting_file *file = &waiting->list[i];
+        file->behind = file->fate == WAITS ? find_behind(night, file, &account) : NULL;
+        if (file->fate == WAITS && file->behind == NULL) {
+            show_passing("%zu of %zu files", i, waiting->count);
+            take_file(night, file);
+        }
+    }
+    wipe_passing();
+}
+
+/* A file that could not follow may follow what a later one has brought, and one that had to wait for another can come
+ * after it, so there is another round as long as a file is done. */
+static void run_rounds(struct night *night) {
+    size_t before;
+    do {
+        before = night->done;
+        run_round(night);
+    } while (!night->ended && night->done > before);
+}
+
+static int tell_behind(const struct night *night, const struct waiting_file *file) {
+    char key[KEY_FORM + 1], day[DAY_FORM + 1];
+    const struct entry *account = NULL;
+    const struct waiting_file *behind = find_behind(night, file, &account);
+    if (behind == NULL) {
+        return STATUS_DONE; /* the run has ended before its turn came again */
+    }
+    spell_key(account->row, key);
+    spell_day(day_in(account->row + ROW_OLD_DATE), day);
+    complain(file->path,
+             "it waits for %s: with it the account %s would begin on %s, and what comes before that could never be "
+             "stored",
+             behind->path, key, day);
+    return STATUS_JOURNAL_REFUSES;
+}
+
+/* What cannot be taken now is said once, when no round will change it. */
+static void tell_left(struct night *night) {
+    for (size_t i = 0; i < night->waiting.count; i++) {
+        const struct waiting_file *file = &night->waiting.list[i];
+        if (file->fate == WAITS && file->behind != NULL) {
+            night->status = worse(night->status, tell_behind(night, file));
+        } else if (file->fate == WAITS && file->refusal != 0) {
+            night->status = worse(night->status, refused_by(file->path, file->refusal, night->journal, file->lines));
+        }
+    }
+}
+
+/* A line for the files and their statements, and one for each account that has begun. */
+static int tell_totals(const struct night *night) {
+    char key[KEY_FORM + 1], day[DAY_FORM + 1];
+    int status =
+        answer(night->journal, "done %zu, refused %zu, left %zu, stored %" PRIu64 ", held %" PRIu64, night->done,
+               night->refused, night->waiting.count - night->done - night->refused, night->stored, night->held);
+    for (size_t i = 0; i < night->begun_count; i++) {
+        spell_key(night->begun[i].row, key);
+        spell_day(day_in(night->begun[i].row + ROW_OLD_DATE), day);
+        status = worse(status, answer(night->journal, "begins %s %s", key, day));
+    }
+    return status;
+}
+
+/* A file that was put away unread by the journal may have been the first of an account that has begun without it. */
+static void warn(const struct night *night) {
+    size_t passed = night->waiting.count - night->done;
+    if (night->begun_count > 0 && passed > 0) {
+        complain(night->journal,
+                 "accounts begin in this run, and not all files are in the journal (%zu are not): look whether one of "
+                 "them is earlier, for what comes before an account's first statement can never be stored",
+                 passed);
+    }
+}
+
+static int tell(struct night *night) {
+    tell_left(night);
+    warn(night);
+    return worse(night->status, tell_totals(night));
+}
+
+/* One that cannot be read may be the first of its account. */
+static int run_night(struct night *night, const struct place *journal) {
+    size_t unreadable;
+    int status = find_waiting(&night->folders.incoming, journal, &night->waiting, &unreadable);
+    if (status != STATUS_DONE) {
+        return status;
+    }
+    if (unreadable > 0 && !night->arguments->go_on) {
+        complain(night->folders.incoming.name,
+                 "nothing was delivered: what may be in a file that cannot be read nobody knows; --go-on takes the "
+                 "others");
+        return STATUS_SYSTEM;
+    }
+    night->status = unreadable > 0 ? STATUS_SYSTEM : STATUS_DONE;
+    run_rounds(night);
+    return tell(night);
+}
+
+/* Nothing is looked at, let alone moved, where the journal is not sound. */
+static int test_journal(struct place *place, struct contents *contents) {
+    struct bytes journal;
+    int status = read_journal(place, &journal);
+    if (status != STATUS_DONE) {
+        return status;
+    }
+    uint64_t used = read_contents(&journal, contents);
+    if (crownhazel_is_refused(used)) {
+        status = refused_by(place->name, used, place->name, lines_of(&journal));
+    }
+    let_go(&journal);
+    return status;
+}
+
+int intake_command(const struct arguments *arguments) {
+    struct place place;
+    struct night night = {.arguments = arguments, .journal = arguments->operands[0]};
+    int status = find_existing_journal(night.journal, &place);
+    if (status != STATUS_DONE) {
+        return status;
+    }
+    status = test_journal(&place, &night.before);
+    if (status == STATUS_DONE) {
+        status = open_folders(arguments, &place, &night.folders);
+        if (status == STATUS_DONE) {
+            status = run_night(&night, &place);
+            forget_waiting(&night.waiting);
+            leave_folders(&night.folders);
+        }
+    }
+    leave_place(&place);
+    return status;
+}

@@ -1,0 +1,220 @@
+#define _GNU_SOURCE
+#include "waiting.h"
+
+#include <dirent.h>
+#include <errno.h>
+#include <fcntl.h>
+#include <stdlib.h>
+#include <string.h>
+#include <unistd.h>
+
+#include "say.h"
+#include "status.h"
+
+/* Senders write under such a name, and rename the file when it is whole. */
+static bool is_under_way(const char *name) {
+    static const char *const endings[] = {".part", ".tmp", ".filepart", "~"};
+    size_t length = strlen(name);
+    for (size_t i = 0; i < sizeof endings / sizeof endings[0]; i++) {
+        size_t ending = strlen(endings[i]);
+        if (length >= ending && strcmp(name + length - ending, endings[i]) == 0) {
+            return true;
+        }
+    }
+    return name[0] == '.';
+}
+
+/* Folders stand there for other purposes, and no statement is in them. */
+static bool is_folder(const char *path) {
+    struct stat status;
+    return lstat(path, &status) == 0 && S_ISDIR(status.st_mode);
+}
+
+/* Appends a path, which is the list's from then on. */
+static bool add_path(struct waiting *waiting, char *path) {
+    struct waiting_file *list = realloc(waiting->list, (waiting->count + 1) * sizeof *list);
+    if (list == NULL) {
+        free(path);
+        return false;
+    }
+    waiting->list = list;
+    waiting->list[waiting->count++] = (struct waiting_file){.path = path};
+    return true;
+}
+
+static bool add_name(struct waiting *waiting, const struct folder *incoming, const char *name) {
+    char *path = is_under_way(name) ? NULL : path_in(incoming, name);
+    if (path == NULL || is_folder(path)) {
+        free(path);
+        return path != NULL || is_under_way(name);
+    }
+    return add_path(waiting, path);
+}
+
+/* False with errno. */
+static bool add_names(DIR *names, const struct folder *incoming, struct waiting *waiting) {
+    const struct dirent *entry;
+    while (errno = 0, (entry = readdir(names)) != NULL) {
+        if (!add_name(waiting, incoming, entry->d_name)) {
+            return false;
+        }
+    }
+    return errno == 0;
+}
+
+/* The oldest first; those of one day by their names. */
+static int compare(const void *one, const void *other) {
+    const struct waiting_file *file = one, *second = other;
+    if (file->day != second->day) {
+        return file->day < second->day ? -1 : 1;
+    }
+    return strcmp(file->path, second->path);
+}
+
+static void sort(struct waiting *waiting) {
+    if (waiting->count > 0) {
+        qsort(waiting->list, waiting->count, sizeof waiting->list[0], compare);
+    }
+}
+
+/* By their names, as long as no date is known. */
+static int list_folder(const struct folder *incoming, struct waiting *waiting) {
+    DIR *names = opendir(incoming->name);
+    bool listed = names != NULL && add_names(names, incoming, waiting);
+    int error = errno;
+    if (names != NULL) {
+        closedir(names);
+    }
+    errno = error;
+    sort(waiting);
+    return listed ? STATUS_DONE : failed(incoming->name, "the folder cannot be read");
+}
+
+/* Opens without waiting, not for a pipe either, and follows no link. */
+static int open_file(const char *path) {
+    int descriptor;
+    do {
+        descriptor = open(path, O_RDONLY | O_CLOEXEC | O_NOCTTY | O_NONBLOCK | O_NOFOLLOW);
+    } while (descriptor < 0 && errno == EINTR);
+    return descriptor;
+}
+
+/* Takes the file's status, then its bytes, so that a change of them shows later. */
+static bool read_file(const char *path, int descriptor, struct stat *status, struct input *input) {
+    if (descriptor >= 0 && fstat(descriptor, status) == 0) {
+        if (S_ISREG(status->st_mode)) {
+            return read_descriptor(path, descriptor, input);
+        }
+        complain(path, "cannot be read: it is a pipe or a device");
+    } else if (errno == ELOOP) {
+        complain(path, "cannot be read: it is a link, and links are not followed here");
+    } else {
+        failed(path, "cannot be read");
+    }
+    return false;
+}
+
+/* Its date and its accounts. */
+static bool take_dates(struct waiting_file *file, const struct input *input) {
+    file->day = earliest_day(input);
+    if (file->day == 0 || find_begins(input, &file->begins)) {
+        return true;
+    }
+    failed(file->path, "cannot be read");
+    return false;
+}
+
+/* Reads one for its dates. */
+static bool look_into_file(struct waiting_file *file) {
+    struct input input;
+    int descriptor = open_file(file->path);
+    bool read = read_file(file->path, descriptor, &file->status, &input);
+    if (read) {
+        read = take_dates(file, &input);
+        let_go(&input.kept);
+    }
+    if (descriptor >= 0) {
+        close(descriptor);
+    }
+    return read;
+}
+
+/* A second name of the journal would be judged, and put away. */
+static bool is_journal(const struct waiting_file *file, const struct place *journal) {
+    return file->status.st_dev == journal->status.st_dev && file->status.st_ino == journal->status.st_ino;
+}
+
+int find_waiting(const struct folder *incoming, const struct place *journal, struct waiting *waiting,
+                 size_t *unreadable) {
+    *waiting = (struct waiting){0};
+    *unreadable = 0;
+    int status = list_folder(incoming, waiting);
+    for (size_t i = 0; status == STATUS_DONE && i < waiting->count; i++) {
+        struct waiting_file *file = &waiting->list[i];
+        show_passing("reading, %zu of %zu files", i, waiting->count);
+        file->fate = look_into_file(file) ? WAITS : PASSED_OVER;
+        *unreadable += file->fate == PASSED_OVER;
+        if (file->fate == WAITS && is_journal(file, journal)) {
+            complain(file->path, "it is the journal %s itself, by another name", journal->name);
+            status = STATUS_USAGE;
+        }
+    }
+    wipe_passing();
+    sort(waiting);
+    return status;
+}
+
+void forget_waiting(struct waiting *waiting) {
+    for (size_t i = 0; i < waiting->count; i++) {
+        free(waiting->list[i].path);
+        forget_begins(&waiting->list[i].begins);
+    }
+    free(waiting->list);
+    *waiting = (struct waiting){0};
+}
+
+static bool is_as_it_was(const struct stat *then, const struct stat *now) {
+    return then->st_dev == now->st_dev && then->st_ino == now->st_ino && then->st_size == now->st_size &&
+           then->st_mtim.tv_sec == now->st_mtim.tv_sec && then->st_mtim.tv_nsec == now->st_mtim.tv_nsec;
+}
+
+bool open_waiting(const struct waiting_file *file, struct input *input, int *descriptor) {
+    struct stat status;
+    *descriptor = open_file(file->path);
+    bool read = read_file(file->path, *descriptor, &status, input);
+    if (read && !is_as_it_was(&file->status, &status)) {
+        complain(file->path, "another program has changed or replaced it since the run began; it is left in place");
+        let_go(&input->kept);
+        read = false;
+    }
+    if (!read && *descriptor >= 0) {
+        close(*descriptor);
+    }
+    return read;
+}
+
+bool was_changed(const struct waiting_file *file, int descriptor) {
+    struct stat status;
+    return fstat(descriptor, &status) != 0 || !is_as_it_was(&file->status, &status);
+}
+
+/* Whether another file has an earlier statement of the account of an entry. */
+static bool has_earlier(const struct waiting_file *other, const struct entry *entry) {
+    for (size_t i = 0; i < other->begins.count; i++) {
+        if (same_account(&other->begins.list[i], entry)) {
+            return begins_before(&other->begins.list[i], entry);
+        }
+    }
+    return false;
+}
+
+const struct waiting_file *waits_behind(const struct waiting *waiting, const struct waiting_file *file,
+                                        const struct entry *entry) {
+    for (size_t i = 0; i < waiting->count; i++) {
+        const struct waiting_file *other = &waiting->list[i];
+        if (other != file && other->fate != MOVED && has_earlier(other, entry)) {
+            return other;
+        }
+    }
+    return NULL;
+}
