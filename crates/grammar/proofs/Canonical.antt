@@ -26,6 +26,7 @@ module _ (C : Coding) (L : Lawful C) (f : Form) where
     body : take (C .size) (canonPiece C p) ≡ C .canon (take (C .size) p)
     rules : (m : Mode) → fileRules C f m (canonPiece C p) ≡ fileRules C f m p
     values : recOf C (canonPiece C p) ≡ recOf C p
+    rest : drop (C .size) (canonPiece C p) ≡ drop (C .size) p
 
   -- this holds of every whole piece, by the law `alike`
   written : (p : List ℕ) → length p ≡ widthOf (C .size) f → Written p
@@ -43,6 +44,7 @@ module _ (C : Coding) (L : Lawful C) (f : Form) where
         body = t;
         rules = λ m. rw (v, t, d, a .permitted, a .known, a .fits, a .dated);
         values = v;
+        rest = d;
       }
 
   -- a row of pieces stays whole
@@ -55,6 +57,11 @@ module _ (C : Coding) (L : Lawful C) (f : Form) where
       → map (take (C .size)) (map (canonPiece C) ps) ≡ map (λ p. C .canon (take (C .size) p)) ps
   bodies-canon [] w = refl
   bodies-canon (p ∷ ps) w = ap₂ _∷_ (written p (w .0) .body) (bodies-canon ps (w .1))
+
+  -- and what stands after each is as it was
+  pub ends-canon : (ps : List (List ℕ)) → Wide (widthOf (C .size) f) ps → map (drop (C .size)) (map (canonPiece C) ps) ≡ map (drop (C .size)) ps
+  ends-canon [] w = refl
+  ends-canon (p ∷ ps) w = ap₂ _∷_ (written p (w .0) .rest) (ends-canon ps (w .1))
 
   -- where no rule on the bytes applies to them none applies to what stood
   pub fine-canon : (ps : List (List ℕ)) → Wide (widthOf (C .size) f) ps → All (Fine C) (map (λ p. C .canon (take (C .size) p)) ps)

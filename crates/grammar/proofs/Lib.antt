@@ -11,6 +11,7 @@ pub mod Canonical
 pub mod After
 pub mod Exact
 pub mod Refusal
+pub mod Relined
 pub mod Demand
 pub mod Trips
 pub mod Parts

@@ -10,15 +10,14 @@ use Rattle.zones.specs.Pieces.{flat}
 use Rattle.framing.specs.Files.{All, widthOf, fileOf}
 use Rattle.framing.proofs.Cuts.{flat-drop, flat-take}
 use Rattle.grammar.specs.declared.Key.{Key}
-use Rattle.grammar.specs.Answer.{accepted}
 use Rattle.grammar.specs.Record.{Rec, closing, Edition}
-use Rattle.grammar.specs.Statements.{Movement, Statement, Valid, sizes, recordsOf, allRecords, complementsIn, movementsOf, complementsOf}
-use Rattle.grammar.specs.Files.{Coding, Lawful, pieces, canonPiece, canonical, layoutOf, Reads, checkOf}
+use Rattle.grammar.specs.Statements.{Movement, Statement, Valid, sizes, recordsOf, allRecords}
+use Rattle.grammar.specs.Files.{Coding, Lawful, pieces, canonPiece, canonical, layoutOf, Reads}
 use Rattle.grammar.specs.Parts.{sizeOf, recordsBefore, nothing, partOf}
-use Rattle.grammar.proofs.Rows.{addsThen, movesThen, all-cons, counts-path}
+use Rattle.grammar.proofs.Rows.{addsThen, movesThen, all-cons}
 use Rattle.grammar.proofs.Seam.{piecesFor}
 use Rattle.grammar.proofs.Canonical.{canonical-flat, wide-all}
-use Rattle.grammar.proofs.Exact.{counts, reads-pieces, reads-flat, reads-same}
+use Rattle.grammar.proofs.Exact.{reads-pieces, reads-flat, reads-same}
 use Rattle.grammar.proofs.Trips.{one-records}
 
 module _ {A : Type 0} (P : A → Type 0) where
@@ -122,10 +121,3 @@ module _ (C : Coding) (L : Lawful C) {f : Form} {b : List ℕ} {ss : List Statem
         layout = part-layout;
         few = rw (← p) (omega (arith, length-take n (drop m rs), length-drop m rs, r .few));
       }
-
-  -- so the check accepts it, as one statement
-  pub part-accepted : checkOf C f (partOf C f b (j + 1))
-      ≡ accepted
-      (record { statements = 1; movements = length (getD ss j nothing .movements); complements = complementsIn (getD ss j nothing .movements) })
-  unfolding movementsOf complementsOf
-  part-accepted = counts C L part-reads ∙ ap accepted (counts-path refl (omega arith) (omega arith))

@@ -104,6 +104,11 @@ module _ (C : Coding) (f : Form) where
     bodies-pieces [] o = refl
     bodies-pieces (r ∷ rs) o = ap₂ _∷_ (body r (o .0)) (bodies-pieces rs (o .1))
 
+    -- what stands after each is the line end
+    pub ends-pieces : (rs : List Rec) → All (C .Ok) rs → map (drop (C .size)) (piecesFor rs) ≡ map (λ r. endOf f) rs
+    ends-pieces [] o = refl
+    ends-pieces (r ∷ rs) o = ap₂ _∷_ (rest r (o .0)) (ends-pieces rs (o .1))
+
     -- what is written is its own canonical form
     canon-piece : (r : Rec) → C .Ok r → canonPiece C (pieceOf f (C .encode r)) ≡ pieceOf f (C .encode r)
     canon-piece r o = rw (body r o, rest r o) (ap (λ l. l ++ endOf f) (canon-encode C L r o))

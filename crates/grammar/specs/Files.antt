@@ -72,6 +72,10 @@ module _ (C : Coding) where
   unfoldable pub canonical : Form → List ℕ → List ℕ
   canonical f b = flat (map canonPiece (pieces f b)) ++ drop (countOf (C .size) f b * widthOf (C .size) f) b
 
+  -- a file of another form: its records as they stand, each followed by the line end of g
+  unfoldable pub relined : (f g : Form) → List ℕ → List ℕ
+  relined f g b = fileOf g (map (take (C .size)) (pieces f b))
+
   -- statements laid out by the rules
   unfoldable pub layoutOf : Form → List Statement → List ℕ
   layoutOf f ss = fileOf f (map (C .encode) (allRecords (C .edition) ss))

@@ -1,6 +1,6 @@
 -- The theorems of the format at the real records.
 use mathlib.Core.Path.{_≡_, refl, ap, sym, _∙_}
-use mathlib.Core.Bool.{true, not}
+use mathlib.Core.Bool.{true, false, not}
 use mathlib.Core.Logic.{_↔_}
 use mathlib.Core.List.{List, [], _∷_}
 use Prim.Native.Nat.{ℕ, _+_, _<_, _≤_}
@@ -10,15 +10,16 @@ use lib.Seq.{length-take-le}
 use borrow.Author.Tests.{not-true}
 use Rattle.zones.proofs.Bools.{and-left, and-right, both}
 use Rattle.framing.specs.declared.Form.{Form}
-use Rattle.framing.specs.Files.{All, widthOf}
+use Rattle.framing.specs.Files.{All, widthOf, unknownEnd}
 use Rattle.framing.proofs.Cuts.{Wide}
 use Rattle.grammar.specs.Answer.{Counts, Answer, accepted}
 use Rattle.grammar.specs.Statements.{Statement, countsOf}
-use Rattle.grammar.specs.Files.{pieces, checkOf, canonical, layoutOf, Gives, Reads, statementsOf, Writable, Ruled}
+use Rattle.grammar.specs.Files.{pieces, checkOf, canonical, relined, layoutOf, Gives, Reads, statementsOf, Writable, Ruled}
 use Rattle.grammar.specs.Demand.{Demand2}
 use Rattle.grammar.specs.Parts.{partOf, nothing}
 use Rattle.grammar.proofs.Canonical as N
 use Rattle.grammar.proofs.Exact as G
+use Rattle.grammar.proofs.Relined as E
 use Rattle.grammar.proofs.Refusal as R
 use Rattle.grammar.proofs.Demand as D
 use Rattle.grammar.proofs.Trips as T
@@ -83,7 +84,14 @@ statements-canonical = N.statements-canonical july july-lawful
 pub reads-canonical : {f : Form} {b : List ℕ} {ss : List Statement} → Reads july f b ss ↔ Reads july f (canonical july f b) ss
 reads-canonical = G.reads-canonical july july-lawful
 
--- they are the same file exactly if no record has a debit zero
+-- with any of the three line ends a file reads as the same statements; with its own it is the same file
+pub relined-reads : {f g : Form} {b : List ℕ} {ss : List Statement} → Reads july f b ss → unknownEnd g ≡ false → Reads july g (relined july f g b) ss
+relined-reads = E.relined-reads july july-lawful
+
+pub relined-own : {f : Form} {b : List ℕ} {ss : List Statement} → Reads july f b ss → relined july f f b ≡ b
+relined-own = E.relined-own july july-lawful
+
+-- a file and its canonical form are the same exactly if no record has a debit zero
 pub own-file : (f : Form) (b : List ℕ) → (canonical july f b ≡ b) ↔ (noDebitZero (pieces july f b) ≡ true)
 unfolding noDebitZero
 own-file f b = (
