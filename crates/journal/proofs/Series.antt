@@ -10,14 +10,14 @@ use lib.IntN.{ℤ, _+ℤ_}
 use Rattle.zones.specs.Choice.{pick}
 use Rattle.zones.proofs.Copies.{equal-same}
 use Rattle.framing.specs.declared.Form.{Form}
-use Rattle.framing.specs.Files.{All}
+use Rattle.framing.specs.Files.{All, unknownEnd}
 use Rattle.grammar.specs.declared.Key.{Key}
 use Rattle.grammar.specs.Record.{sameKey}
 use Rattle.grammar.specs.Statements.{Movement, Statement, plus}
-use Rattle.grammar.specs.Files.{canonical, Reads, Writable, statementsOf}
+use Rattle.grammar.specs.Files.{canonical, relined, Reads, Writable, statementsOf}
 use Rattle.grammar.specs.Parts.{sizeOf}
 use Rattle.records.specs.July.{july}
-use Rattle.records.proofs.Theorems.{counts, reads, unique, reads-canonical}
+use Rattle.records.proofs.Theorems.{counts, reads, unique, reads-canonical, relined-reads}
 use Rattle.bodies.specs.Bodies.{bodyOf, identical}
 use Rattle.journal_layout.specs.Chains.{heldAmong, Chained, ofAccount}
 use Rattle.journal_layout.specs.Layout.{isLength, layoutOf, Journal, openedOf}
@@ -25,10 +25,10 @@ use Rattle.journal.specs.declared.Delivery.the-variants.{Done}
 use Rattle.journal.specs.Delivery.{Outcome, delivered, refused, run, linesIn, outcomeOf, contentOf}
 use Rattle.journal.specs.Answers.{answerOf, Delivers}
 use Rattle.journal.specs.Arrivals.{arrivals, movementsIn, Summed}
-use Rattle.journal.specs.Series.{Event, deliver, Deliver, acceptedBy, after, accepted, heldAfter, Demand3}
+use Rattle.journal.specs.Series.{Event, deliver, Deliver, acceptedBy, after, accepted, heldAfter, WhollyHeld, Demand3}
 use Rattle.journal.proofs.Values.{held-append}
 use Rattle.journal.proofs.Runs.{held-verdict}
-use Rattle.journal.proofs.Delivered.{lines-are, outcome-by, stored, unchanged, opened}
+use Rattle.journal.proofs.Delivered.{lines-are, outcome-by, Stored, stored, unchanged, opened}
 
 -- ---- arrivals
 
@@ -140,7 +140,7 @@ run-held n hs behind stored held (s ∷ ss) h =
 
 -- so a file whose statements are all held changes nothing
 pub wholly-held : {j : List ℕ} {L ss : List Statement} → Journal j L → (g : Form) (c : List ℕ) → Reads july g c ss → HeldBy L ss
-    → ours j g c ≡ record { answer = Done 0 (length ss); journal = j }
+    → WhollyHeld ours j g c ss
 unfolding contentOf
 wholly-held {j} {L} {ss} d g c r h =
     let a = counts r in
@@ -168,28 +168,31 @@ module _ (j : List ℕ) (right : isLength (length j) ≡ true) where
   from-opening : (es : List Event) → Journal (after ours (openedOf j) es) (heldAfter ours (openedOf j) es)
   from-opening es = series (opened j right) es
 
-  sent-again : (es : List Event) (f : Form) (b : List ℕ) (s h : ℕ) → ours (after ours (openedOf j) es) f b .answer ≡ Done s h
-      → (later : List Event) (g : Form) (c : List ℕ) → Reads july g c (statementsOf july f b)
-      → ours (after ours (openedOf j) (es ++ (deliver f b ∷ later))) g c
-      ≡ record { answer = Done 0 (length (statementsOf july f b)); journal = after ours (openedOf j) (es ++ (deliver f b ∷ later)) }
-  unfolding after
-  sent-again es f b s h e later g c r =
-      let J = after ours (openedOf j) es in
-      let H = heldAfter ours (openedOf j) es in
-      let y = answered (outcomeOf J f b) e in
-      let x = stored (from-opening es) f b (y .1) in
-      let d = series (x .journal) later in
-      let q : HeldBy (y .0) (statementsOf july f b) = rw (x .list) (arrived-held H (statementsOf july f b)) in
-      rw (after-append ours (openedOf j) es (deliver f b ∷ later)) (wholly-held d g c r (held-more (y .0) _ (statementsOf july f b) q))
+  module _ (es : List Event) (f : Form) (b : List ℕ) (s h : ℕ) (done : ours (after ours (openedOf j) es) f b .answer ≡ Done s h) where
+    -- what this file came to
+    abbrev came : (L : List Statement) × Stored (from-opening es) f b L s h
+    came = let y = answered (outcomeOf (after ours (openedOf j) es) f b) done in (y .0, stored (from-opening es) f b (y .1))
 
-  -- so the same file, with either zero wherever it has one
-  pub either-zero : (es : List Event) (f : Form) (b : List ℕ) (s h : ℕ) → ours (after ours (openedOf j) es) f b .answer ≡ Done s h
-      → (later : List Event) (c : List ℕ) → canonical july f c ≡ canonical july f b
-      → ours (after ours (openedOf j) (es ++ (deliver f b ∷ later))) f c
-      ≡ record { answer = Done 0 (length (statementsOf july f b)); journal = after ours (openedOf j) (es ++ (deliver f b ∷ later)) }
-  either-zero es f b s h e later c z =
-      let r = stored (from-opening es) f b (answered (outcomeOf (after ours (openedOf j) es) f b) e .1) .read in
-      sent-again es f b s h e later f c (reads-canonical .1 (rw z (reads-canonical .0 r)))
+    -- a file of the same statements is wholly held ever after
+    sent-alike : (later : List Event) (g : Form) (c : List ℕ) → Reads july g c (statementsOf july f b)
+        → WhollyHeld ours (after ours (openedOf j) (es ++ (deliver f b ∷ later))) g c (statementsOf july f b)
+    unfolding after
+    sent-alike later g c r =
+        let H = heldAfter ours (openedOf j) es in
+        let x = came .1 in
+        let q : HeldBy (came .0) (statementsOf july f b) = rw (x .list) (arrived-held H (statementsOf july f b)) in
+        rw (after-append ours (openedOf j) es (deliver f b ∷ later))
+        (wholly-held (series (x .journal) later) g c r (held-more (came .0) _ (statementsOf july f b) q))
+
+    -- so the file with any of the three line ends
+    sent-again : (later : List Event) (g : Form) → unknownEnd g ≡ false
+        → WhollyHeld ours (after ours (openedOf j) (es ++ (deliver f b ∷ later))) g (relined july f g b) (statementsOf july f b)
+    sent-again later g k = sent-alike later g (relined july f g b) (relined-reads (came .1 .read) k)
+
+    -- and the file with either zero wherever it has one
+    pub either-zero : (later : List Event) (c : List ℕ) → canonical july f c ≡ canonical july f b
+        → WhollyHeld ours (after ours (openedOf j) (es ++ (deliver f b ∷ later))) f c (statementsOf july f b)
+    either-zero later c z = sent-alike later f c (reads-canonical .1 (rw z (reads-canonical .0 (came .1 .read))))
 
 pub demand3 : Demand3 openedOf ours
 demand3 =
@@ -198,8 +201,10 @@ demand3 =
       distinct = λ j h es. from-opening j h es .kept .distinct;
       chained = λ j h es k. from-opening j h es .kept .chained k;
       summed = λ j h es k. journal-summed (from-opening j h es) k;
-      counts = λ j h es f b s y e. let x = stored (from-opening j h es) f b (answered (outcomeOf (after ours (openedOf j) es) f b) e .1) in (x .stores, x .all);
+      reads = λ j h es f b s y e. came j h es f b s y e .1 .read;
+      counts = λ j h es f b s y e. let x = came j h es f b s y e .1 in (x .stores, x .all);
       again = sent-again;
+      alike = sent-alike;
     }
 
 -- whatever opens and delivers by the contracts meets demand 3

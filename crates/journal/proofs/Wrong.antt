@@ -1,49 +1,156 @@
--- Wrong deliveries, and that demand 3 shuts each of them out.
+-- Wrong deliveries, and that demand 3 shuts each of them out: each is caught by a small file, at a journal just opened.
 use mathlib.Core.Path.{_≡_, refl, sym, ap, _∙_}
-use mathlib.Core.Bool.{Bool, true, false, _||_}
-use mathlib.Core.List.{List, [], _∷_, _++_, append-nil}
-use Prim.Native.Nat.{ℕ, _+_}
+use mathlib.Core.Bool.{Bool, true, false}
+use mathlib.Core.List.{List, [], _∷_, append-nil}
+use Prim.Native.Nat.{ℕ, _-_, _/_}
 use native.Mathlib.Omega.{arith}
-use lib.ListN.{length}
+use lib.ListN.{length, replicate, length-replicate}
 use Rattle.zones.specs.Choice.{pick}
+use Rattle.zones.specs.Copy.{sameBytes}
 use Rattle.framing.specs.declared.Form.{Form}
-use Rattle.grammar.specs.Statements.{Statement}
-use Rattle.grammar.specs.Files.{statementsOf}
-use Rattle.records.specs.July.{july}
+use Rattle.grammar.specs.Answer.{refused}
+use Rattle.grammar.specs.Record.{sameKey}
+use Rattle.grammar.specs.Statements.{Statement, sizes}
+use Rattle.grammar.specs.Files.{checkOf, statementsOf}
+use Rattle.records.specs.July.{recordSize, july}
+use Rattle.records.specs.Worked.{nil}
+use Rattle.records.proofs.Theorems as T
+use Rattle.records.proofs.Worked.{nil-accepted}
+use Rattle.records.proofs.Small.{form, nil-crlf, two, lone, february, march, nil-holds, two-hold, two-accepted, lone-refused, nil-relined}
 use Rattle.bodies.specs.Bodies.{identical}
-use Rattle.journal_layout.specs.Chains.{heldAmong}
-use Rattle.journal_layout.specs.Layout.{isLength, Journal}
+use Rattle.entries.specs.Entries.{tableSize, lineAt}
+use Rattle.journal_layout.specs.Chains.{heldAmong, lastAmong, judgementOf, Chained, ofAccount}
+use Rattle.journal_layout.specs.Layout.{isLength, linesOf, layoutOf, Journal, openedOf}
 use Rattle.journal_layout.proofs.Exact.{sound-unique}
-use Rattle.journal.specs.declared.Delivery.the-variants.{Done}
+use Rattle.journal.specs.declared.Delivery.the-variants.{Done, Refused}
+use Rattle.journal.specs.Delivery.{verdictOf, delivered, run, linesIn, outcomeOf, contentOf}
+use Rattle.journal.specs.Answers.{Delivers}
 use Rattle.journal.specs.Arrivals.{arrivals}
-use Rattle.journal.specs.Series.{Event, deliver, Deliver, after, accepted, heldAfter, Demand3}
+use Rattle.journal.specs.Series.{deliver, Deliver, after, accepted, Demand3}
+use Rattle.journal.proofs.Delivered.{file-writable, outcome-by, opened}
+use Rattle.journal.proofs.Accounts.{identical-equal}
 
-module _ {O : List ℕ → List ℕ} {D : Deliver} (d : Demand3 O D) (j : List ℕ) (right : isLength (length j) ≡ true) (f : Form) (b : List ℕ)
-    {x y : ℕ} (done : D (O j) f b .answer ≡ Done x y) where
-  -- what must be held after this one file
-  must-hold : Journal (D (O j) f b .journal) (arrivals [] (statementsOf july f b))
-  unfolding after accepted
-  must-hold = rw (done, append-nil (statementsOf july f b)) at (d .holds j right (deliver f b ∷ []))
+-- a journal with room for four records, before it is opened
+unfoldable pub room : List ℕ
+room = replicate (lineAt 4) 0
 
-  -- one that does nothing and says that a file of statements is delivered
-  pub does-nothing : {s : Statement} {ss : List Statement} → statementsOf july f b ≡ s ∷ ss → D (O j) f b .journal ≡ O j → ⊥
-  unfolding after accepted arrivals heldAmong
-  does-nothing {s} {ss} e n =
-      let h : Journal (O j) [] = d .holds j right [] in
-      let g : Journal (O j) (s ∷ arrivals (s ∷ []) ss) = rw (n, e) at must-hold in
-      let q = sound-unique h g in
-      let z : _≡_ {A = ℕ} 0 1 = cc in
-      omega arith
+room-long : length room ≡ lineAt 4
+unfolding room
+room-long = length-replicate {A = ℕ} (lineAt 4) 0
 
-  -- one that stores only a file's first statement, though another follows it
-  pub only-the-first : {s t : Statement} {ss : List Statement} → statementsOf july f b ≡ s ∷ t ∷ ss → identical s t ≡ false → Journal (D (O j) f b .journal) (s ∷ []) → ⊥
-  unfolding arrivals heldAmong
-  only-the-first {s} {t} {ss} e n h =
-      let g : Journal (D (O j) f b .journal) (s ∷ t ∷ arrivals (s ∷ t ∷ []) ss) = rw (e, n) at must-hold in
-      let q = ap length (sound-unique h g) in
-      omega arith
+room-right : isLength (length room) ≡ true
+unfolding isLength
+room-right = rw room-long
+
+opened-long : length (openedOf room) ≡ lineAt 4
+unfolding openedOf
+opened-long = rw room-right (length-replicate {A = ℕ} (length room) 32 ∙ room-long)
+
+-- the two periods are not identical
+two-differ : identical february march ≡ false
+two-differ = by (identical february march) refl
+  where
+    by : (t : Bool) → identical february march ≡ t → identical february march ≡ false
+    by true e =
+        let w = rw two-hold at (file-writable (T.reads (form 1) two two-accepted)) in
+        let q : _≡_ {A = ℕ} 20250228 20250331 = ap (λ s. s .new-date) (identical-equal (w .0) (w .1 .0) e) in
+        absurd (omega arith)
+    by false e = e
+
+-- by the rules both are stored
+pub right-two : Delivers (openedOf room) (form 1) two (Done 2 0) (layoutOf 4 (february ∷ march ∷ []))
+unfolding contentOf run verdictOf judgementOf heldAmong lastAmong linesOf sizes sameKey sameBytes
+right-two =
+    let n : linesIn (openedOf room) ≡ 4 = ap (λ (k : ℕ). (k - tableSize) / recordSize) opened-long in
+    let o : outcomeOf (openedOf room) (form 1) two ≡ delivered (february ∷ march ∷ []) 2 0 =
+    outcome-by (opened room room-right) (form 1) two ∙ rw (two-accepted, two-hold, n, two-differ) in
+    record { answer = rw o; content = rw (o, n) }
+
+-- a journal of the first alone
+february-alone : Journal (layoutOf 4 (february ∷ [])) (february ∷ [])
+unfolding linesOf sizes ofAccount
+february-alone =
+    record {
+      lines = 4;
+      most = omega arith;
+      layout = refl;
+      kept =
+          record {
+            few = omega arith;
+            room = omega arith;
+            alone = rw nil-holds at (file-writable (T.reads (form 1) nil nil-accepted));
+            distinct = (tt, tt);
+            chained = λ k. by (sameKey (february .key) k);
+          };
+    }
+  where
+    by : (t : Bool) → Chained (pick t (february ∷ []) [])
+    by true = tt
+    by false = tt
+
+-- delivered is not refused
+done-refused : {s h n r : ℕ} → Done s h ≡ Refused n r → ⊥
+done-refused e = let z : _≡_ {A = ℕ} 0 1 = cc in omega arith
+
+module _ {O : List ℕ → List ℕ} {D : Deliver} (d : Demand3 O D) where
+  -- any file on any journal just opened
+  module _ (j : List ℕ) (right : isLength (length j) ≡ true) (f : Form) (b : List ℕ) {x y : ℕ} (done : D (O j) f b .answer ≡ Done x y) where
+    -- what must be held after it
+    must-hold : Journal (D (O j) f b .journal) (arrivals [] (statementsOf july f b))
+    unfolding after accepted
+    must-hold = rw (done, append-nil (statementsOf july f b)) at (d .holds j right (deliver f b ∷ []))
+
+    -- the journal is not as it was where the file has a statement
+    not-unchanged : {s : Statement} {ss : List Statement} → statementsOf july f b ≡ s ∷ ss → D (O j) f b .journal ≡ O j → ⊥
+    unfolding after accepted arrivals heldAmong
+    not-unchanged {s} {ss} e n =
+        let h : Journal (O j) [] = d .holds j right [] in
+        let g : Journal (O j) (s ∷ arrivals (s ∷ []) ss) = rw (n, e) at must-hold in
+        let q = sound-unique h g in
+        let z : _≡_ {A = ℕ} 0 1 = cc in
+        omega arith
+
+    -- and does not hold the first alone where another follows
+    not-the-first : {s t : Statement} {ss : List Statement} → statementsOf july f b ≡ s ∷ t ∷ ss → identical s t ≡ false → Journal (D (O j) f b .journal) (s ∷ []) → ⊥
+    unfolding arrivals heldAmong
+    not-the-first {s} {t} {ss} e n h =
+        let g : Journal (D (O j) f b .journal) (s ∷ t ∷ arrivals (s ∷ t ∷ []) ss) = rw (e, n) at must-hold in
+        let q = ap length (sound-unique h g) in
+        omega arith
+
+    -- the check does not refuse it
+    not-refused : {n r : ℕ} → checkOf july f b ≡ refused n r → ⊥
+    unfolding after
+    not-refused e =
+        let c = T.counts (d .reads j right [] f b x y done) in
+        let z : _≡_ {A = ℕ} 0 1 = cc in
+        omega arith
+
+  -- one that does nothing and says that a file of one statement is delivered, with any counts
+  pub does-nothing : (s h : ℕ) → D (O room) (form 1) nil ≡ record { answer = Done s h; journal = O room } → ⊥
+  does-nothing s h e = not-unchanged room room-right (form 1) nil (ap (λ a. a .answer) e) nil-holds (ap (λ a. a .journal) e)
+
+  -- one that stores only the first of two statements
+  pub only-the-first : (s h : ℕ) → D (O room) (form 1) two ≡ record { answer = Done s h; journal = layoutOf 4 (february ∷ []) } → ⊥
+  only-the-first s h e =
+      not-the-first room room-right (form 1) two (ap (λ a. a .answer) e) two-hold two-differ (rw e february-alone)
 
   -- one that makes up its two counts
-  pub made-up-counts : (x ≡ length (arrivals [] (statementsOf july f b)) → x + y ≡ length (statementsOf july f b) → ⊥) → ⊥
-  unfolding after accepted arrivals
-  made-up-counts n = let c = d .counts j right [] f b x y done in n (c .0) (c .1)
+  pub made-up-counts : (s h : ℕ) → (Done s h ≡ Done 2 0 → ⊥) → D (O room) (form 1) two .answer ≡ Done s h → ⊥
+  unfolding after accepted arrivals heldAmong
+  made-up-counts s h n e =
+      let c = rw (two-hold, two-differ) at (d .counts room room-right [] (form 1) two s h e) in
+      let p : s ≡ 2 = c .0 in
+      let q : h ≡ 0 = omega (arith, c .1) in
+      n (rw (p, q))
+
+  -- one that takes a 07 alone for a file: it holds no statement, so only `reads` tells
+  pub takes-nonsense : (s h : ℕ) → D (O room) (form 0) lone .answer ≡ Done s h → ⊥
+  takes-nonsense s h e = not-refused room room-right (form 0) lone e lone-refused
+
+  -- one that refuses a file when it comes again with CR LF
+  pub refuses-again : (s h n r : ℕ) → D (O room) (form 1) nil .answer ≡ Done s h → D (D (O room) (form 1) nil .journal) (form 2) nil-crlf .answer ≡ Refused n r → ⊥
+  unfolding after
+  refuses-again s h n r e g =
+      let w = rw nil-relined at (d .again room room-right [] (form 1) nil s h e [] (form 2) refl) in
+      done-refused (sym (ap (λ a. a .answer) w) ∙ g)

@@ -1,13 +1,14 @@
 -- DEMAND 3, over any two functions that open a journal and deliver to it: after any series of deliveries, with any bytes.
 use mathlib.Core.Path.{_≡_}
-use mathlib.Core.Bool.{true}
+use mathlib.Core.Bool.{true, false}
 use mathlib.Core.List.{List, [], _∷_, _++_}
 use Prim.Native.Nat.{ℕ, _+_}
 use lib.ListN.{length}
 use Rattle.framing.specs.declared.Form.{Form}
+use Rattle.framing.specs.Files.{unknownEnd}
 use Rattle.grammar.specs.declared.Key.{Key}
 use Rattle.grammar.specs.Statements.{Statement}
-use Rattle.grammar.specs.Files.{Reads, statementsOf}
+use Rattle.grammar.specs.Files.{relined, Reads, statementsOf}
 use Rattle.records.specs.July.{july}
 use Rattle.journal_layout.specs.Chains.{Chained, ofAccount, Distinct}
 use Rattle.journal_layout.specs.Layout.{isLength, Journal}
@@ -47,6 +48,10 @@ module _ (D : Deliver) where
   abbrev pub heldAfter : List ℕ → List Event → List Statement
   heldAfter j es = arrivals [] (accepted j es)
 
+-- a file of the statements ss is answered as wholly held and changes nothing
+abbrev pub WhollyHeld : Deliver → (j : List ℕ) → Form → (b : List ℕ) → List Statement → Type 0
+WhollyHeld D j f b ss = D j f b ≡ record { answer = Done 0 (length ss); journal = j }
+
 pub record Demand3 (O : List ℕ → List ℕ) (D : Deliver) : Type 0 where
   -- it holds the statements of the accepted files, in order of first arrival
   pub holds : (j : List ℕ) → isLength (length j) ≡ true → (es : List Event) → Journal (after D (O j) es) (heldAfter D (O j) es)
@@ -56,13 +61,20 @@ pub record Demand3 (O : List ℕ → List ℕ) (D : Deliver) : Type 0 where
   pub chained : (j : List ℕ) → isLength (length j) ≡ true → (es : List Event) (k : Key) → Chained (ofAccount k (heldAfter D (O j) es))
   -- its first old balance plus every movement held is its last new balance
   pub summed : (j : List ℕ) → isLength (length j) ≡ true → (es : List Event) (k : Key) → Summed (ofAccount k (heldAfter D (O j) es))
+  -- what is answered without a refusal is a file of statements
+  pub reads : (j : List ℕ) → isLength (length j) ≡ true → (es : List Event) (f : Form) (b : List ℕ) (s h : ℕ)
+      → D (after D (O j) es) f b .answer ≡ Done s h → Reads july f b (statementsOf july f b)
   -- the answer is how many of the file's statements were stored and how many were held
   pub counts : (j : List ℕ) → isLength (length j) ≡ true → (es : List Event) (f : Form) (b : List ℕ) (s h : ℕ)
       → D (after D (O j) es) f b .answer ≡ Done s h
       → (s ≡ length (arrivals (heldAfter D (O j) es) (statementsOf july f b))) × (s + h ≡ length (statementsOf july f b))
-  -- such a file, sent again at any later time with any line ends and either zero, is answered as wholly held and changes nothing
+  -- such a file, sent again at any later time with any of the three line ends, is answered as wholly held and changes nothing
   pub again : (j : List ℕ) → isLength (length j) ≡ true → (es : List Event) (f : Form) (b : List ℕ) (s h : ℕ)
       → D (after D (O j) es) f b .answer ≡ Done s h
+      → (later : List Event) (g : Form) → unknownEnd g ≡ false
+      → WhollyHeld D (after D (O j) (es ++ (deliver f b ∷ later))) g (relined july f g b) (statementsOf july f b)
+  -- and so is any file of the same statements: its zeros may have the other sign
+  pub alike : (j : List ℕ) → isLength (length j) ≡ true → (es : List Event) (f : Form) (b : List ℕ) (s h : ℕ)
+      → D (after D (O j) es) f b .answer ≡ Done s h
       → (later : List Event) (g : Form) (c : List ℕ) → Reads july g c (statementsOf july f b)
-      → D (after D (O j) (es ++ (deliver f b ∷ later))) g c
-      ≡ record { answer = Done 0 (length (statementsOf july f b)); journal = after D (O j) (es ++ (deliver f b ∷ later)) }
+      → WhollyHeld D (after D (O j) (es ++ (deliver f b ∷ later))) g c (statementsOf july f b)

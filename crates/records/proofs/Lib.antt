@@ -9,4 +9,5 @@ pub mod Theorems
 pub mod Looking
 pub mod Compared
 pub mod Worked
+pub mod Small
 pub mod One

@@ -28,7 +28,7 @@ unfolding every sameBytes valueFrom digitsInto signIndex signOf isDebit magnitud
 worked = refl
 
 -- the first of them, an empty account, is accepted
-nil-accepted : checkOf july (record { «line_end» = 1 }) nil ≡ counts 1 0 0
+pub nil-accepted : checkOf july (record { «line_end» = 1 }) nil ≡ counts 1 0 0
 nil-accepted = ap (λ l. getD l 0 (refused 0 0)) worked
 
 -- and has a debit zero

@@ -1,0 +1,89 @@
+-- Small files, by which wrong deliveries are caught: what they hold, by computation from the definitions.
+use mathlib.Core.Path.{_≡_, refl}
+use mathlib.Core.List.{List, [], _∷_}
+use Prim.Native.Nat.{ℕ}
+use Prim.Native.String.{String}
+use lib.IntN.{pos}
+use Rattle.zones.specs.Class.{every}
+use Rattle.zones.specs.Copy.{sameBytes}
+use Rattle.zones.specs.Number.{valueFrom}
+use Rattle.zones.specs.Pieces.{flat}
+use Rattle.zones.specs.Text.{bytes}
+use Rattle.amounts.specs.Amounts.{signIndex, signOf, isDebit, magnitude, amountOf}
+use Rattle.dates.specs.Days.{yearOf, daysIn, exists, dayOf, dateOf}
+use Rattle.framing.specs.declared.Form.{Form}
+use Rattle.framing.specs.Files.{endOf, widthOf, chunks, fileOf}
+use Rattle.grammar.specs.Answer.{refused}
+use Rattle.grammar.specs.Record.{sameKey}
+use Rattle.grammar.specs.Machine.{judgeOf, scan}
+use Rattle.grammar.specs.Rules.{outOfPlace, differs, misdated, unsummed, secondMmo, tooLong}
+use Rattle.grammar.specs.Statements.{Statement, back}
+use Rattle.grammar.specs.Files.{relined, checkOf, statementsOf}
+use Rattle.records.specs.July.{unknownCode, layoutOf, misfit, undated, decodeRecord, july}
+use Rattle.records.specs.Worked.{nil-old, nil-new, nil, plain, lf, crlf, counts}
+
+-- the form with line end n
+abbrev pub form : ℕ → Form
+form n = record { «line_end» = n }
+
+-- the period after that of `nil`, of the same account and empty too
+abbrev next-old : String
+next-old = "0112345    00010EUR2 0001234567A  280225                                                  0000000000000{                "
+
+abbrev next-new : String
+next-new = "0712345    00010EUR2 0001234567A  310325                                                  0000000000000{                "
+
+-- the first period with CR LF for LF; both periods; a 07 alone
+abbrev pub nil-crlf : List ℕ
+nil-crlf = crlf (nil-old ∷ nil-new ∷ [])
+
+abbrev pub two : List ℕ
+two = lf (nil-old ∷ nil-new ∷ next-old ∷ next-new ∷ [])
+
+abbrev pub lone : List ℕ
+lone = plain (nil-new ∷ [])
+
+-- their statements
+abbrev period : (from to : ℕ) → Statement
+period from to =
+    record {
+      key = record { bank = bytes "12345"; branch = bytes "00010"; currency = bytes "EUR"; decimals = 50; account = bytes "0001234567A" };
+      old-date = from;
+      old-balance = pos 0;
+      movements = [];
+      new-date = to;
+      new-balance = pos 0;
+    }
+
+abbrev pub february : Statement
+february = period 20250131 20250228
+
+abbrev pub march : Statement
+march = period 20250228 20250331
+
+-- one statement, two, none
+pub nil-holds : statementsOf july (form 1) nil ≡ february ∷ []
+unfolding statementsOf back decodeRecord chunks widthOf sameBytes dateOf dayOf yearOf exists daysIn valueFrom amountOf signOf signIndex isDebit magnitude every
+nil-holds = refl
+
+pub two-hold : statementsOf july (form 1) two ≡ february ∷ march ∷ []
+unfolding statementsOf back decodeRecord chunks widthOf sameBytes dateOf dayOf yearOf exists daysIn valueFrom amountOf signOf signIndex isDebit magnitude every
+two-hold = refl
+
+pub lone-holds : statementsOf july (form 0) lone ≡ []
+unfolding statementsOf back decodeRecord chunks widthOf sameBytes
+lone-holds = refl
+
+-- the second is accepted too, the last is refused
+pub two-accepted : checkOf july (form 1) two ≡ counts 2 0 0
+unfolding every sameBytes valueFrom signIndex signOf isDebit magnitude amountOf yearOf daysIn exists dayOf dateOf endOf widthOf chunks sameKey judgeOf scan outOfPlace differs misdated unsummed secondMmo tooLong checkOf unknownCode layoutOf misfit undated decodeRecord
+two-accepted = refl
+
+pub lone-refused : checkOf july (form 0) lone ≡ refused 7 1
+unfolding every sameBytes endOf widthOf chunks judgeOf scan outOfPlace checkOf unknownCode decodeRecord
+lone-refused = refl
+
+-- the records of the first, each followed by CR LF
+pub nil-relined : relined july (form 1) (form 2) nil ≡ nil-crlf
+unfolding relined fileOf flat endOf chunks widthOf
+nil-relined = refl
