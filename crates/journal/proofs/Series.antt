@@ -17,7 +17,7 @@ use Rattle.grammar.specs.Statements.{Movement, Statement, plus}
 use Rattle.grammar.specs.Files.{canonical, relined, Reads, Writable, statementsOf}
 use Rattle.grammar.specs.Parts.{sizeOf}
 use Rattle.records.specs.July.{july}
-use Rattle.records.proofs.Theorems.{counts, reads, unique, reads-canonical, relined-reads}
+use Rattle.records.proofs.Theorems.{counts, reads, unique, reads-canonical, relined-reads, relined-own}
 use Rattle.bodies.specs.Bodies.{bodyOf, identical}
 use Rattle.journal_layout.specs.Chains.{heldAmong, Chained, ofAccount}
 use Rattle.journal_layout.specs.Layout.{isLength, layoutOf, Journal, openedOf}
@@ -214,3 +214,10 @@ deliver-demand3 O D o d =
     let p : O ≡ openedOf = λ i j. o j i in
     let q : D ≡ ours = λ i j f b. record { answer = d j f b .answer i; journal = d j f b .content i } in
     rw (p, q) demand3
+
+-- whatever meets it holds the very file wholly ever after: its own line end is one of the three
+pub same-again : {O : List ℕ → List ℕ} {D : Deliver} → Demand3 O D
+    → (j : List ℕ) → isLength (length j) ≡ true → (es : List Event) (f : Form) (b : List ℕ) (s h : ℕ) → D (after D (O j) es) f b .answer ≡ Done s h
+    → (later : List Event) → WhollyHeld D (after D (O j) (es ++ (deliver f b ∷ later))) f b (statementsOf july f b)
+same-again d j l es f b s h e later =
+    let r = d .reads j l es f b s h e in rw (relined-own r) at (d .again j l es f b s h e later f (r .line))
