@@ -3,10 +3,10 @@ ghost use mathlib.Core.Path.{_≡_};
 ghost use Rattle.codes.specs.Code.{charValue, signTicked, markFor};
 ghost use Rattle.codes.specs.Answers.{Table, NumberIn, MarkIn, Number, Mark, DebitTicked, CreditTicked, Family, Generic};
 
-// The number of each code of annex 2, at its index.
+// The number of each code of annex 2, at its index. Those of the worked examples are named.
 const TABLE: [u16; 1296] = [
     0,
-    65509,
+    65509, // 01
     70,
     65509,
     65510,
@@ -47,10 +47,10 @@ const TABLE: [u16; 1296] = [
     166,
     197,
     70,
-    1,
+    1, // 16
     1,
     166,
-    0,
+    0, // 19
     0,
     0,
     0,
@@ -85,7 +85,7 @@ const TABLE: [u16; 1296] = [
     294,
     1157,
     1157,
-    1189,
+    1189, // 28
     1189,
     0,
     0,
@@ -368,7 +368,7 @@ const TABLE: [u16; 1296] = [
     0,
     294,
     294,
-    1158,
+    1158, // A3
     1158,
     1157,
     1157,
