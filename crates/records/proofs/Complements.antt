@@ -17,7 +17,7 @@ use Rattle.layouts.specs.Zone as Z
 use Rattle.layouts.specs.Zone.{part, zone, zoned, dated, run}
 use Rattle.layouts.proofs.PerLayout.{zone-at, fits-permitted}
 use Rattle.records.specs.Layouts.{layout05, layoutMmo}
-use Rattle.records.specs.July.{recordSize, isCode, isMmo, layout05Of, writeComplement, HoldsComplement}
+use Rattle.records.specs.July.{recordSize, isCode, isMmo, layout05Of, writeComplement}
 use Rattle.records.proofs.Covered.{covers05, covers-mmo}
 use Rattle.records.proofs.Valued.{Judged}
 
@@ -86,14 +86,11 @@ placed e t p q =
       size = omega (arith, length-append e r, length-append t (replicate 2 32));
     }
 
--- a 05's record fits, by either layout, and is of permitted bytes
-pub complement-permitted : (e t : List ℕ) → HoldsComplement e t → all permitted (writeComplement e t) ≡ true
+-- a 05's record that fits, by either layout, is of permitted bytes
+pub complement-permitted : (e t : List ℕ) → Placed e t → Judged (layout05Of t) (writeComplement e t) → all permitted (writeComplement e t) ≡ true
 unfolding isMmo
-complement-permitted e t h = by (isMmo t) refl (h .zones) (h .dates)
+complement-permitted e t p j = by (isMmo t) refl (j .zones) (j .dates)
   where
-    p : Placed e t
-    p = placed e t (h .repeated) (h .text)
-
     code : sameBytes (bytes "05") (part 1 2 (writeComplement e t)) ≡ true
     code = rw (p .code) (equal-same (bytes "05"))
 

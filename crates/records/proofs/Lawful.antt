@@ -4,23 +4,23 @@ use mathlib.Core.Bool.{true}
 use mathlib.Core.List.{List}
 use Prim.Native.Nat.{ℕ}
 use native.Mathlib.Omega.{arith}
-use lib.ListN.{length, drop, length-drop}
-use lib.Seq.{length-take-le}
+use lib.ListN.{length}
 use lib.IntN.{ℤ}
 use Rattle.zones.specs.Text.{bytes}
 use Rattle.zones.proofs.Copies.{equal-same}
-use Rattle.layouts.specs.Zone.{part, encode, canon}
+use Rattle.layouts.specs.Zone.{encode, canon}
 use Rattle.layouts.proofs.PerLayout.{Fits, encode-decode, holds-decode, decode-encode}
 use Rattle.grammar.specs.declared.Key.{Key}
 use Rattle.grammar.specs.Record.{Posting, Rec, opening, movement, complement, closing}
 use Rattle.grammar.specs.Files.{Fine, Lawful}
 use Rattle.records.specs.Layouts.{layout01, layout04, layout07}
-use Rattle.records.specs.July.{recordSize, isCode, layout05Of, layoutOf, decodeRecord, balanceValues, movementValues, writeBalance, writeMovement, writeComplement, encodeRecord, HoldsComplement, Holds, canonRecord, july}
+use Rattle.records.specs.July.{recordSize, isCode, layout05Of, layoutOf, decodeRecord, balanceValues, movementValues, writeBalance, writeMovement, writeComplement, encodeRecord, Holds, canonRecord, july}
 use Rattle.records.proofs.Covered.{covers01, covers04, covers07}
 use Rattle.records.proofs.Coded.{As, as01, as04, as05, as07, Coded, is01, is04, is05, is07, coded}
 use Rattle.records.proofs.Valued.{Judged, judged, fine, written-length, written-judged, written-marks, written-permitted}
 use Rattle.records.proofs.Canon.{balanceIn, movementIn, canon05, alike, once}
 use Rattle.records.proofs.Complements.{complement-again, placed, complement-permitted}
+use Rattle.records.proofs.Held.{judged-held, held-judged}
 
 -- BYTES TO VALUES
 fits01 : (b : List ℕ) → isCode "01" b ≡ true → Judged layout01 b → Fits layout01 b
@@ -42,23 +42,13 @@ again b l f = by (coded b (f .known))
     by (is05 h a) = rw (a .layout) (ap encodeRecord (a .values) ∙ complement-again b l h (judged l a f) ∙ sym (canon05 b l))
     by (is07 h a) = rw (a .layout) (ap encodeRecord (a .values) ∙ encode-decode recordSize layout07 b covers07 l (fits07 b h (judged l a f)))
 
-complement-ok : (b : List ℕ) → length b ≡ recordSize → isCode "05" b ≡ true → Judged (layout05Of (part 46 118 b)) b → HoldsComplement (part 3 40 b) (part 46 118 b)
-complement-ok b l h j =
-    let e = complement-again b l h j in
-    record {
-      repeated = length-take-le 38 (drop 2 b) (rw length-drop (omega arith));
-      text = length-take-le 73 (drop 45 b) (rw length-drop (omega arith));
-      zones = rw e (j .zones);
-      dates = rw e (j .dates);
-    }
-
 ok : (b : List ℕ) → length b ≡ recordSize → Fine july b → Holds (decodeRecord b)
 ok b l f = by (coded b (f .known))
   where
     by : Coded b → Holds (decodeRecord b)
     by (is01 h a) = rw (a .values) (holds-decode recordSize layout01 b covers01 l (fits01 b h (judged l a f)))
     by (is04 h a) = rw (a .values) (holds-decode recordSize layout04 b covers04 l (fits04 b h (judged l a f)))
-    by (is05 h a) = rw (a .values) (complement-ok b l h (judged l a f))
+    by (is05 h a) = rw (a .values) (judged-held b l (judged l a f))
     by (is07 h a) = rw (a .values) (holds-decode recordSize layout07 b covers07 l (fits07 b h (judged l a f)))
 
 -- VALUES TO BYTES
@@ -84,9 +74,9 @@ as-movement k p h =
     let s = as04 (encode layout04 v) (written-marks layout04 covers04 v h) in
     record { layout = s .layout; values = s .values ∙ ap movementIn (decode-encode recordSize layout04 v covers04 h); known = s .known }
 
-as-complement : (e t : List ℕ) → HoldsComplement e t → As (writeComplement e t) (layout05Of t) (complement e t)
+as-complement : (e t : List ℕ) → Holds (complement e t) → As (writeComplement e t) (layout05Of t) (complement e t)
 as-complement e t h =
-    let p = placed e t (h .repeated) (h .text) in
+    let p = placed e t (h .0 .size) (h .1 .size) in
     let s = as05 (writeComplement e t) (rw (p .code) (equal-same (bytes "05"))) in
     record {
       layout = rw (p .text) at (s .layout);
@@ -98,7 +88,7 @@ wide : (r : Rec) → Holds r → length (encodeRecord r) ≡ recordSize
 unfolding writeBalance writeMovement
 wide (opening k d a) h = written-length layout01 covers01 (balanceValues "01" k d a) h
 wide (movement k p) h = written-length layout04 covers04 (movementValues k p) h
-wide (complement e t) h = placed e t (h .repeated) (h .text) .size
+wide (complement e t) h = placed e t (h .0 .size) (h .1 .size) .size
 wide (closing k d a) h = written-length layout07 covers07 (balanceValues "07" k d a) h
 
 written-fine : (r : Rec) → Holds r → Fine july (encodeRecord r)
@@ -110,7 +100,8 @@ written-fine (movement k p) h =
     let v = movementValues k p in
     fine (wide (movement k p) h) (as-movement k p h) (written-judged layout04 covers04 v h) (written-permitted layout04 covers04 v h)
 written-fine (complement e t) h =
-    fine (wide (complement e t) h) (as-complement e t h) (record { zones = h .zones; dates = h .dates }) (complement-permitted e t h)
+    let j = held-judged e t (h .0) (h .1) in
+    fine (wide (complement e t) h) (as-complement e t h) j (complement-permitted e t (placed e t (h .0 .size) (h .1 .size)) j)
 written-fine (closing k d a) h =
     let v = balanceValues "07" k d a in
     fine (wide (closing k d a) h) (as-closing k d a h) (written-judged layout07 covers07 v h) (written-permitted layout07 covers07 v h)

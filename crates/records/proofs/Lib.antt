@@ -2,6 +2,7 @@ pub mod Covered
 pub mod Coded
 pub mod Valued
 pub mod Complements
+pub mod Held
 pub mod Canon
 pub mod Lawful
 pub mod Zones

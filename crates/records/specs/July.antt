@@ -2,17 +2,18 @@
 use mathlib.Core.Path.{_≡_}
 use mathlib.Core.Bool.{Bool, true, not, _&&_, _||_}
 use mathlib.Core.List.{List, [], _∷_, _++_}
-use Prim.Native.Nat.{ℕ}
+use Prim.Native.Nat.{ℕ, _-_}
 use Prim.Native.String.{String}
 use lib.Dec.{eqb}
 use lib.ListN.{length, take, getD, replicate}
 use lib.IntN.{ℤ}
 use Rattle.zones.specs.Choice.{pick}
+use Rattle.zones.specs.Class.{digit, letter, alnum, blank, permitted, all}
 use Rattle.zones.specs.Copy.{sameBytes}
 use Rattle.zones.specs.Number.{valueOf}
 use Rattle.zones.specs.Text.{bytes}
 use Rattle.amounts.specs.Amounts.{amountOf, debitZero}
-use Rattle.dates.specs.Days.{dateOf}
+use Rattle.dates.specs.Days.{dateOf, isDay}
 use Rattle.layouts.specs.Zone.{part, Kind, Ask, Zone, dayIn, valueIn, zoned, dated, run, Values, encode, canon, holdsAll}
 use Rattle.grammar.specs.declared.Key.{Key}
 use Rattle.grammar.specs.Record.{Posting, Rec, opening, movement, complement, closing, Edition}
@@ -163,18 +164,45 @@ encodeRecord (closing k d a) = writeBalance "07" k d a
 unfoldable pub repeats : Key → Posting → List ℕ
 repeats k p = part 3 40 (writeMovement k p)
 
--- what a 05 can hold: its record has the zones and the date of its layout
-pub record HoldsComplement (e t : List ℕ) : Type 0 where
-  pub repeated : length e ≡ 38
-  pub text : length t ≡ 73
-  pub zones : run zoned (layout05Of t) (writeComplement e t) ≡ true
-  pub dates : run dated (layout05Of t) (writeComplement e t) ≡ true
+-- Positions of a 05: of those that it repeats of its 04, 3-40, and of its text, 46-118.
+abbrev pub inRepeated : (first last : ℕ) → List ℕ → List ℕ
+inRepeated first last e = part (first - 2) (last - 2) e
+
+abbrev pub inText : (first last : ℕ) → List ℕ → List ℕ
+inText first last t = part (first - 45) (last - 45) t
+
+-- what a 05 can repeat of its 04
+pub record HoldsRepeated (e : List ℕ) : Type 0 where
+  pub size : length e ≡ 38
+  pub bank : all digit (inRepeated 3 7 e) ≡ true
+  pub internal : all permitted (inRepeated 8 11 e) ≡ true
+  pub branch : all digit (inRepeated 12 16 e) ≡ true
+  pub currency : all letter (inRepeated 17 19 e) ≡ true
+  pub decimals : all digit (inRepeated 20 20 e) ≡ true
+  pub reserved : all blank (inRepeated 21 21 e) ≡ true
+  pub account : all alnum (inRepeated 22 32 e) ≡ true
+  pub operation : all alnum (inRepeated 33 34 e) ≡ true
+  pub date : isDay (dayIn (dateOf (inRepeated 35 40 e))) ≡ true
+
+-- With qualifier MMO the information is 49-51 currency (A-Z), 52 decimals (digit), 53-66 unsigned amount (digits), 67-118 blank.
+pub record HoldsMmo (t : List ℕ) : Type 0 where
+  pub currency : all letter (inText 49 51 t) ≡ true
+  pub decimals : all digit (inText 52 52 t) ≡ true
+  pub amount : all digit (inText 53 66 t) ≡ true
+  pub rest : all blank (inText 67 118 t) ≡ true
+
+-- the text of a 05: 46-48 qualifier (A-Z, 0-9), 49-118 information (any permitted bytes)
+pub record HoldsText (t : List ℕ) : Type 0 where
+  pub size : length t ≡ 73
+  pub qualifier : all alnum (inText 46 48 t) ≡ true
+  pub information : all permitted (inText 49 118 t) ≡ true
+  pub mmo : isMmo t ≡ true → HoldsMmo t
 
 -- the values that a record can hold
 abbrev pub Holds : Rec → Type 0
 Holds (opening k d a) = holdsAll layout01 (balanceValues "01" k d a) ≡ true
 Holds (movement k p) = holdsAll layout04 (movementValues k p) ≡ true
-Holds (complement e t) = HoldsComplement e t
+Holds (complement e t) = HoldsRepeated e × HoldsText t
 Holds (closing k d a) = holdsAll layout07 (balanceValues "07" k d a) ≡ true
 
 -- A record as the writer writes it, by its layout: the amount of an 01, 04 or 07 with `{` for a debit zero; a 05 as it stands.
