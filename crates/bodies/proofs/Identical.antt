@@ -25,9 +25,10 @@ use Rattle.grammar.proofs.Trips.{one-records}
 use Rattle.records.specs.July.{recordSize, july, july2004, encodeRecord}
 use Rattle.records.proofs.Lawful.{july-lawful}
 use Rattle.readers.proofs.Rows.{some}
+use Rattle.contents.proofs.Heading.{length-part}
 use Rattle.bodies.specs.Bodies.{kept, bodyOf, identical, sameRows, sameRecords, keptRows, bodyIn, bodyPut}
 use Rattle.bodies.specs.Answers.{PutBody}
-use Rattle.bodies.proofs.Ends.{length-kept, length-part}
+use Rattle.bodies.proofs.Ends.{length-kept}
 
 -- rows compared in two parts
 same-append : (a b c d : List ℕ) → length a ≡ length c → (sameBytes a c && sameBytes b d) ≡ sameBytes (a ++ b) (c ++ d)

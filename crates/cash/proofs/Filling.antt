@@ -37,9 +37,9 @@ use Rattle.readers.proofs.Movements.{before, rest, movement-there}
 use Rattle.contents.specs.Heads.{recordAtOf}
 use Rattle.contents.specs.Movements.{noMovement}
 use Rattle.contents.proofs.Records.{HoldsAt, record-there}
+use Rattle.contents.proofs.Heading.{length-part}
 use Rattle.contents.proofs.Moving.{row-held}
 use Rattle.bodies.specs.Bodies.{plain}
-use Rattle.bodies.proofs.Ends.{length-part}
 use Rattle.journal_layout.specs.Chains.{ofAccount}
 use Rattle.journal_layout.proofs.Chain.{account-append}
 use Rattle.journal.specs.Arrivals.{movementsIn}

@@ -1,15 +1,15 @@
 -- The head of a statement, as the code gathers it.
-use mathlib.Core.Path.{_≡_, refl, sym, _∙_}
-use mathlib.Core.List.{List, _∷_}
+use mathlib.Core.Path.{_≡_, refl, sym, ap, _∙_}
+use mathlib.Core.List.{List, [], _∷_}
 use Prim.Native.Nat.{ℕ, suc, _+_, _-_, _*_, _<_, _≤_}
-use native.Mathlib.Nat.{add-zero, add-mul}
+use native.Mathlib.Nat.{add-zero, zero-mul, add-mul}
 use native.Mathlib.Omega.{arith}
-use lib.ListN.{length, take, drop, getD}
+use lib.ListN.{length, drop, getD}
 use lib.Seq.{drop-cons, drop-length, take-all}
 use lib.IntN.{ℤ}
 use mir.Syntax.{w64}
 use mir.Val.{toZ, ofZ}
-use borrow.Author.Tests.{eq-eqb, ltb-false}
+use borrow.Author.Tests.{eq-eqb}
 use Rattle.amounts.proofs.Whole.{back}
 use Rattle.framing.specs.declared.Form.{Form}
 use Rattle.framing.specs.Files.{lineEnd, widthOf}
@@ -17,26 +17,26 @@ use Rattle.grammar.specs.declared.Key.{Key}
 use Rattle.grammar.specs.Answer.{Answer, accepted, refused}
 use Rattle.grammar.specs.Record.{opening, closing}
 use Rattle.grammar.specs.Statements.{Statement, sizes, allRecords, movementsOf}
-use Rattle.grammar.specs.Files.{Reads, statementsOf, checkOf}
-use Rattle.grammar.specs.Parts.{recordsBefore, nothing}
+use Rattle.grammar.specs.Files.{Reads, checkOf}
+use Rattle.grammar.specs.Parts.{sizeOf, recordsBefore, nothing}
 use Rattle.grammar.proofs.Parts.{drop-before}
 use Rattle.grammar.proofs.Rows.{all-cons}
 use Rattle.records.specs.July.{recordSize, july, july2004, keyIn, dateIn, amountIn, decodeRecord}
 use Rattle.records.specs.declared.Look.{Look}
 use Rattle.records.specs.Looks.{lookOf}
-use Rattle.records.proofs.Theorems.{counts, reads}
+use Rattle.records.proofs.Theorems.{counts}
 use Rattle.fields.specs.Rows.{keyAtOf}
 use Rattle.statements.specs.declared.Checked.the-variants as C
 use Rattle.statements.specs.Answers.{checkedOf}
 use Rattle.statements.proofs.Judging.{look-small}
 use Rattle.statements.proofs.Modes.{View, one, four, five, seven, view}
-use Rattle.readers.specs.declared.Place.the-variants.{At, Refused}
+use Rattle.readers.specs.declared.Place.the-variants.{Refused}
 use Rattle.readers.specs.Places.{placeOf}
 use Rattle.readers.proofs.Movements.{before, rest}
-use Rattle.readers.proofs.Placed.{found, part-cut, part-alone}
+use Rattle.readers.proofs.Turns.{after-last}
 use Rattle.contents.specs.declared.Head.{Head}
 use Rattle.contents.specs.declared.HeadAnswer.{HeadAnswer}
-use Rattle.contents.specs.Heads.{recordAtOf, headFrom, noHead, headIn, headAt, movementsIn}
+use Rattle.contents.specs.Heads.{recordAtOf, headFrom, noHead, headAmong, headIn, headAt, movementsIn}
 use Rattle.contents.proofs.Records.{HoldsAt, record-there}
 
 -- the values of a balance
@@ -102,65 +102,59 @@ pub old-date-at : {f : Form} {b : List ℕ} {ss : List Statement} → Reads july
 unfolding lookOf
 old-date-at r j h = let o = opening-at r j h in rw (eq-eqb _ recordSize (o .whole)) (opened _ (o .values) .day)
 
-module _ (f : Form) (b : List ℕ) (k : ℕ) {x n : ℕ} (e : At x n ≡ placeOf f b k) where
-  abbrev ss : List Statement
-  ss = statementsOf july f b
-
-  abbrev s : Statement
-  s = getD ss (k - 1) nothing
-
+-- the part of a statement
+module _ {f : Form} {b : List ℕ} {s : Statement} (r : Reads july f b (s ∷ [])) where
   abbrev w : ℕ
   w = widthOf recordSize f
 
-  in-list : k - 1 < length ss
-  in-list =
-      let g = found f b k e in
-      let o = g .some in
-      omega (arith, g .few)
+  -- as many bytes as its records with their line ends
+  pub length-part : length b ≡ sizeOf s * w
+  unfolding recordsBefore
+  length-part = sym (after-last r) ∙ ap (λ (n : ℕ). n * w) (omega arith)
 
   -- its first record is its 01
-  first-there : HoldsAt b x (opening (s .key) (s .old-date) (s .old-balance))
-  first-there = let g = found f b k e in rw (g .first) (opening-at (reads f b (g .yes)) (k - 1) in-list)
+  pub first-held : HoldsAt b 0 (opening (s .key) (s .old-date) (s .old-balance))
+  first-held = rw (zero-mul w) at (record-there r 0 (all-cons july2004 s []))
 
   -- its last record is its 07
-  last-place : x + n - w ≡ before (reads f b (found f b k e .yes)) (k - 1) in-list (length (s .movements)) * w
+  abbrev records-before-last : ℕ
+  records-before-last = before r 0 (omega arith) (length (s .movements))
+
+  last-record : drop records-before-last (allRecords july2004 (s ∷ []))
+      ≡ closing (s .key) (s .new-date) (s .new-balance) ∷ rest r 0 (omega arith) (length (s .movements)) .0
+  last-record = rest r 0 (omega arith) (length (s .movements)) .1 ∙ rw (drop-length (s .movements))
+
+  last-place : length b - w ≡ records-before-last * w
+  unfolding recordsBefore
   last-place =
-      let g = found f b k e in
       let m = sizes (s .movements) in
-      rw (take-all (length (s .movements)) (s .movements) (omega arith), g .first, g .len)
-      (omega (arith, add-mul (recordsBefore (k - 1) ss) (1 + m) w, add-mul m 2 w, add-mul 1 m w))
+      rw (take-all (length (s .movements)) (s .movements) (omega arith), length-part)
+      (omega (arith, add-mul m 2 w, add-mul 1 m w, add-mul 0 (1 + m) w))
 
-  last-there : HoldsAt b (x + n - w) (closing (s .key) (s .new-date) (s .new-balance))
-  last-there =
-      let g = found f b k e in
-      let r = reads f b (g .yes) in
-      let i = length (s .movements) in
-      let l = rest r (k - 1) in-list i in
-      let q : drop (before r (k - 1) in-list i) (allRecords july2004 ss) ≡ closing (s .key) (s .new-date) (s .new-balance) ∷ l .0 = l .1 ∙ rw (drop-length (s .movements)) in
-      rw last-place (record-there r (before r (k - 1) in-list i) q)
-
-  pub head-there : headAt (recordAtOf b x) (recordAtOf b (x + n - w)) ≡ headFrom s
-  head-there = head-held s (recordAtOf b x) (recordAtOf b (x + n - w)) (first-there .whole) (last-there .whole) (opened _ (first-there .values)) (closed _ (last-there .values))
-
-  -- its part is accepted with its number of movements
-  pub count-there : movementsIn (checkOf july f (take (x + n - x) (drop x b))) ≡ length (s .movements)
-  unfolding movementsOf
-  count-there = rw (part-cut f b k e, counts (part-alone f b k e)) (add-zero (length (s .movements)))
-
-  -- the whole answer
-  pub headed : {h : Head} {m : ℕ} → h ≡ headAt (recordAtOf b x) (recordAtOf b (x + n - (recordSize + lineEnd f))) → m ≡ movementsIn (checkOf july f (take (x + n - x) (drop x b)))
-      → _≡_ {A = HeadAnswer} (record { number = 0; «record» = 0; head = h; movements = m }) (headIn f b k)
-  unfolding headIn widthOf
-  headed p q = rw (p, q, head-there, count-there, ← e)
-
-  -- the line-end number is known
-  pub known-end : lineEnd f ≤ 2
-  known-end = ltb-false 2 (lineEnd f) (reads f b (found f b k e .yes) .line)
+  pub last-held : HoldsAt b (length b - w) (closing (s .key) (s .new-date) (s .new-balance))
+  last-held = rw last-place (record-there r records-before-last last-record)
 
   -- the 07 lies in the part
-  pub one-inside : recordSize + lineEnd f ≤ x + n
+  pub last-inside : recordSize + lineEnd f ≤ length b
   unfolding widthOf
-  one-inside = rw (found f b k e .len) (omega (arith, add-mul (sizes (s .movements)) 2 (recordSize + lineEnd f)))
+  last-inside = rw length-part (omega (arith, add-mul (sizes (s .movements)) 2 (recordSize + lineEnd f)))
+
+  -- it is accepted with its number of movements
+  pub count-there : movementsIn (checkOf july f b) ≡ length (s .movements)
+  unfolding movementsOf
+  count-there = rw (counts r) (add-zero (length (s .movements)))
+
+  -- the whole answer
+  pub headed : {h : Head} {m : ℕ} → h ≡ headAt (recordAtOf b 0) (recordAtOf b (length b - (recordSize + lineEnd f))) → m ≡ movementsIn (checkOf july f b)
+      → _≡_ {A = HeadAnswer} (record { number = 0; «record» = 0; head = h; movements = m }) (headAmong s)
+  unfolding widthOf
+  headed p q =
+      rw (
+        p,
+        q,
+        count-there,
+        head-held s (recordAtOf b 0) (recordAtOf b (length b - w)) (first-held .whole) (last-held .whole) (opened _ (first-held .values)) (closed _ (last-held .values)),
+      )
 
 pub not-headed : (f : Form) (b : List ℕ) (k : ℕ) {n r : ℕ} {h : Head} → Refused n r ≡ placeOf f b k → h ≡ noHead
     → _≡_ {A = HeadAnswer} (record { number = n; «record» = r; head = h; movements = 0 }) (headIn f b k)

@@ -14,12 +14,11 @@ use Rattle.framing.specs.declared.Form.{Form}
 use Rattle.framing.specs.Files.{lineEnd, widthOf}
 use Rattle.grammar.specs.declared.Key.{Key}
 use Rattle.grammar.specs.Record.{Posting, Rec, movement, complement, closing}
-use Rattle.grammar.specs.Statements.{Movement, Statement, sizes, allRecords, movementsOf}
+use Rattle.grammar.specs.Statements.{Movement, Statement, sizes, allRecords}
 use Rattle.grammar.specs.Files.{Reads, statementsOf, checkOf}
 use Rattle.grammar.specs.Parts.{recordsBefore, nothing}
 use Rattle.grammar.proofs.Rows.{addsThen, movesThen}
 use Rattle.records.specs.July.{recordSize, repeats, july, july2004, postingIn, decodeRecord}
-use Rattle.records.proofs.Theorems.{counts}
 use Rattle.fields.specs.Rows.{rowOf, noRow, rowAtOf}
 use Rattle.fields.specs.declared.Movement as Fields
 use Rattle.statements.proofs.Modes.{View, one, four, five, seven, view}
@@ -28,11 +27,13 @@ use Rattle.readers.specs.Places.{placeOf}
 use Rattle.readers.specs.Steps.{foundStep, stepOf}
 use Rattle.readers.proofs.Movements.{before, rest, movement-there}
 use Rattle.readers.proofs.Placed.{part-cut, part-alone}
-use Rattle.contents.specs.Heads.{recordAtOf, movementsIn}
+use Rattle.contents.specs.Heads.{recordAtOf, headAmong, headIn, movementsIn}
 use Rattle.contents.specs.Movements.{noMovement, outside, refusedComplement, movementAmong, textAmong, complementAmong, movementIn, complementIn, Single, stepsAfter, movementPlace}
+use Rattle.contents.specs.declared.HeadAnswer.{HeadAnswer}
 use Rattle.contents.specs.declared.MovementAnswer.{MovementAnswer}
 use Rattle.contents.specs.declared.ComplementAnswer.{ComplementAnswer}
 use Rattle.contents.proofs.Records.{HoldsAt, whole-inside, record-there}
+use Rattle.contents.proofs.Heading.{count-there}
 
 -- one movement after another
 pub steps-on : (f : Form) (b : List ℕ) (left at : ℕ) → 0 < left → stepsAfter f b (left - 1) (stepOf b f at .next) ≡ stepsAfter f b left at
@@ -96,16 +97,12 @@ module _ {f : Form} {b : List ℕ} {s : Statement} (r : Reads july f b (s ∷ []
   abbrev w : ℕ
   w = widthOf recordSize f
 
-  first-only : 0 < length (s ∷ [])
+  abbrev first-only : 0 < length (s ∷ [])
   first-only = omega arith
 
   -- the number of records before movement i, from 0
   abbrev upTo : ℕ → ℕ
   upTo i = before r 0 first-only i
-
-  count : movementsIn (checkOf july f b) ≡ length ms
-  unfolding movementsOf
-  count = rw (counts r) (add-zero (length ms))
 
   -- j movements on
   walked-on : (j i : ℕ) → i + j ≤ length ms → stepsAfter f b j (upTo i * w) ≡ upTo (i + j) * w
@@ -115,7 +112,7 @@ module _ {f : Form} {b : List ℕ} {s : Statement} (r : Reads july f b (s ∷ []
       let z : i + 1 + j ≡ i + suc j = omega arith in
       rw (movement-there r 0 first-only i (drop-cons ms i noMovement (omega arith))) (walked-on j (i + 1) (omega arith) ∙ ap (λ n. upTo n * w) z)
 
-  start : recordSize + lineEnd f ≡ upTo 0 * w
+  pub start : recordSize + lineEnd f ≡ upTo 0 * w
   unfolding recordsBefore sizes widthOf
   start = sym (one-mul (recordSize + lineEnd f))
 
@@ -132,11 +129,11 @@ module _ {f : Form} {b : List ℕ} {s : Statement} (r : Reads july f b (s ∷ []
         let o = in-range i (length ms) g in
         let u = o .0 in
         let z : 0 + (i - 1) ≡ i - 1 = omega arith in
-        e ∙ rw (count, g, start) (walked-on (i - 1) 0 (omega (arith, o .1)) ∙ ap (λ n. upTo n * w) z)
+        e ∙ rw (count-there r, g, start) (walked-on (i - 1) 0 (omega (arith, o .1)) ∙ ap (λ n. upTo n * w) z)
 
     place-out : outside i (length ms) ≡ true → at ≡ 0
     unfolding movementPlace
-    place-out g = e ∙ rw (count, g)
+    place-out g = e ∙ rw (count-there r, g)
 
     none-there : at ≡ 0 → outside i (length ms) ≡ true
     none-there z = by (outside i (length ms)) refl
@@ -270,11 +267,15 @@ module _ (f : Form) (b : List ℕ) (k : ℕ) where
     abbrev cut : List ℕ
     cut = take (x + n - x) (drop x b)
 
-    cut-reads : Reads july f cut (getD (statementsOf july f b) (k - 1) nothing ∷ [])
+    pub cut-reads : Reads july f cut (getD (statementsOf july f b) (k - 1) nothing ∷ [])
     cut-reads = rw (part-cut f b k e) (part-alone f b k e)
 
     pub single-part : Single f cut
     single-part = record { one = getD (statementsOf july f b) (k - 1) nothing; reads = cut-reads }
+
+    pub headed-part : {r : HeadAnswer} → ((s : Statement) → Reads july f cut (s ∷ []) → r ≡ headAmong s) → r ≡ headIn f b k
+    unfolding headIn
+    headed-part g = g _ cut-reads ∙ rw (← e)
 
     pub moved : (i : ℕ) {r : MovementAnswer} → ((s : Statement) → Reads july f cut (s ∷ []) → r ≡ movementAmong (s .movements) i) → r ≡ movementIn f b k i
     unfolding movementIn

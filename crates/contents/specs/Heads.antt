@@ -37,9 +37,13 @@ headFrom s =
 abbrev pub noHead : Head
 noHead = record { key = noKey; «old_date» = 0; «old_balance» = pos 0; «new_date» = 0; «new_balance» = pos 0 }
 
--- the head with its movement count; the file's refusals, then 16
+-- the head with its movement count
+abbrev pub headAmong : Statement → HeadAnswer
+headAmong s = record { number = 0; «record» = 0; head = headFrom s; movements = length (s .movements) }
+
+-- the file's refusals, then 16
 abbrev pub headBy : Place → Statement → HeadAnswer
-headBy (At first len) s = record { number = 0; «record» = 0; head = headFrom s; movements = length (s .movements) }
+headBy (At first len) s = headAmong s
 headBy (Refused n r) s = record { number = n; «record» = r; head = noHead; movements = 0 }
 
 unfoldable pub headIn : Form → List ℕ → ℕ → HeadAnswer

@@ -4,7 +4,7 @@ ghost use mathlib.Core.List.{List, _∷_, []};
 ghost use Rattle.grammar.specs.Statements.{Statement};
 ghost use Rattle.grammar.specs.Files.{Reads};
 ghost use Rattle.records.specs.July.{july};
-ghost use Rattle.contents.specs.Heads.{noHead, headAt};
+ghost use Rattle.contents.specs.Heads.{noHead, headAmong, headAt};
 ghost use Rattle.contents.specs.Movements.{Single, stepsAfter, movementPlace, movementAmong, complementAmong, refusedComplement};
 ghost use Rattle.contents.specs.Earliest.{earlierOf, earliestOf};
 ghost use Rattle.contents.specs.Answers.{RecordAt, MovementsIn, HeadOf, MovementOf, ComplementOf, EarliestIn};
@@ -116,6 +116,21 @@ pub fn movements_in(form: Form, part: &[u8]) -> u64
     }
 }
 
+// The head of a statement's part: its first record is the 01, its last the 07.
+fn head_in(form: Form, part: &[u8]) -> HeadAnswer
+    requires { ⌜ Single form (now part) ⌝ }
+    ensures { λ h. ⌜ ((s : Statement) → Reads july form (now (part .entry)) (s ∷ []) → h ≡ headAmong s) ⌝ }
+{
+    let width = 120 + form.line_end as usize;
+    let last = part.len() - width;
+    HeadAnswer {
+        number: 0,
+        record: 0,
+        head: head_at(record_at(part, 0), record_at(part, last)),
+        movements: movements_in(form, part),
+    }
+}
+
 // The head of statement k. The whole file is judged first.
 pub fn head_of(form: Form, file: &[u8], k: u64) -> HeadAnswer
     ensures { λ h. ⌜ HeadOf form (now (file .entry)) k h ⌝ }
@@ -123,14 +138,7 @@ pub fn head_of(form: Form, file: &[u8], k: u64) -> HeadAnswer
     match readers::statement_place(form, file, k) {
         Place::At { first, len } => {
             let end = first + len;
-            let width = 120 + form.line_end as usize;
-            let last = end - width;
-            HeadAnswer {
-                number: 0,
-                record: 0,
-                head: head_at(record_at(file, first), record_at(file, last)),
-                movements: movements_in(form, &file[first..end]),
-            }
+            head_in(form, &file[first..end])
         }
         Place::Refused { number, record } => HeadAnswer {
             number,

@@ -21,9 +21,10 @@ use Rattle.grammar.proofs.Tests.{clash}
 use Rattle.records.specs.July.{recordSize, july}
 use Rattle.records.specs.Looks.{lookOf}
 use Rattle.contents.specs.Heads.{recordAtOf}
+use Rattle.contents.proofs.Heading.{length-part}
 use Rattle.bodies.specs.Bodies.{plain, kept, bodyOf, openingText, closingText, closingIn, single, statementOf}
 use Rattle.bodies.proofs.Single.{single-reads, single-body, reads-writable}
-use Rattle.bodies.proofs.Ends.{length-part, opening-written, opening-there, opening-whole, closing-written, closing-whole}
+use Rattle.bodies.proofs.Ends.{opening-written, opening-there, opening-whole, closing-written, closing-whole}
 use Rattle.entries.specs.Entries.{mostEntries, entrySize, tableSize, lineAt, entryPut, entryBytes, linesFrom}
 use Rattle.entries.proofs.Written.{entry-kept}
 use Rattle.journal_layout.specs.Chains.{follows}

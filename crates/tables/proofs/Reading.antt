@@ -2,22 +2,20 @@
 use mathlib.Core.Path.{_≡_, sym, ap, _∙_}
 use mathlib.Core.List.{List, _∷_}
 use Prim.Native.Nat.{ℕ, zero, suc, _+_, _-_, _*_, _<_, _≤_}
-use native.Mathlib.Nat.{add-mul, one-mul}
 use native.Mathlib.Numerals.{add-one}
 use native.Mathlib.Omega.{arith}
-use lib.ListN.{length, take, drop, getD}
+use lib.ListN.{length, drop, getD}
 use lib.Seq.{drop-cons, drop-length}
 use borrow.Author.Tests.{lt-ltb, le-ltb}
 use Rattle.framing.specs.declared.Form.{Form}
 use Rattle.framing.specs.Files.{lineEnd, widthOf}
 use Rattle.grammar.specs.Record.{Rec, movement, closing}
 use Rattle.grammar.specs.Statements as values
-use Rattle.grammar.specs.Statements.{Statement, sizes, allRecords}
+use Rattle.grammar.specs.Statements.{Statement, allRecords}
 use Rattle.grammar.specs.Files.{Reads, statementsOf, checkOf}
-use Rattle.grammar.specs.Parts.{recordsBefore, nothing}
+use Rattle.grammar.specs.Parts.{nothing}
 use Rattle.grammar.proofs.Rows.{addsThen, movesThen}
 use Rattle.records.specs.July.{recordSize, repeats, july, july2004}
-use Rattle.records.proofs.Theorems.{reads}
 use Rattle.fields.specs.Rows.{rowOf, rowAtOf}
 use Rattle.fields.specs.declared.Movement.{Movement}
 use Rattle.readers.specs.declared.Step.{Step}
@@ -25,16 +23,16 @@ use Rattle.readers.specs.Steps.{stepOf}
 use Rattle.readers.specs.declared.Place.the-variants.{At, Refused}
 use Rattle.readers.specs.Places.{placeOf}
 use Rattle.readers.proofs.Movements.{before, rest, movement-there}
-use Rattle.readers.proofs.Placed.{found, part-inside}
+use Rattle.readers.proofs.Placed.{part-inside}
 use Rattle.contents.specs.Heads.{recordAtOf, movementsIn}
 use Rattle.contents.specs.Movements.{noMovement}
 use Rattle.contents.proofs.Records.{record-there}
 use Rattle.contents.proofs.Heading.{count-there}
-use Rattle.contents.proofs.Moving.{row-held}
+use Rattle.contents.proofs.Moving.{row-held, start, cut-reads}
 use Rattle.tables.specs.declared.Plan.{Plan}
 use Rattle.tables.specs.declared.RowStep.{RowStep}
 use Rattle.tables.specs.Tables.{rowsOf, laid, tableAnswerOf, tableOf}
-use Rattle.tables.specs.Steps.{rowStepOf, rowsFrom, noRows, Planned}
+use Rattle.tables.specs.Steps.{rowStepOf, rowsFrom, noRows, between, Planned}
 
 -- the step that the code puts together
 pub gathered : (b : List ℕ) (f : Form) (at : ℕ) {s : Step} {o : List ℕ} {x : Movement} → s ≡ stepOf b f at → o ≡ recordAtOf b at → x ≡ rowAtOf o (s .complements)
@@ -82,51 +80,34 @@ module _ {f : Form} {b : List ℕ} {ss : List Statement} (r : Reads july f b ss)
       let q = rows-there n (i + 1) (omega arith) ∙ ap (λ c. rowsOf (drop c ms)) (add-one i) in
       rw (step-there i l, drop-cons ms i noMovement l) (ap (λ rs. rowOf (at i .posting) (length (at i .complements)) ∷ rs) q)
 
+-- the part of statement k
 module _ (f : Form) (b : List ℕ) (k : ℕ) {x n : ℕ} (e : At x n ≡ placeOf f b k) where
-  abbrev ss : List Statement
-  ss = statementsOf july f b
-
   abbrev s : Statement
-  s = getD ss (k - 1) nothing
+  s = getD (statementsOf july f b) (k - 1) nothing
 
-  in-list : k - 1 < length ss
-  in-list =
-      let g = found f b k e in
-      let o = g .some in
-      omega (arith, g .few)
+  abbrev cut : List ℕ
+  cut = between x (x + n) b
 
-  abbrev read : Reads july f b ss
-  read = reads f b (found f b k e .yes)
+  -- its first 04 stands behind its 01
+  rows-are : {m : ℕ} → m ≡ length (s .movements) → rowsFrom cut f (recordSize + lineEnd f) m ≡ rowsOf (s .movements)
+  rows-are {m} q =
+      let r = cut-reads f b k e in
+      rw (start r) (rows-there r 0 (omega arith) m 0 (omega arith))
 
-  -- the first 04 stands behind the 01
-  start : x + (recordSize + lineEnd f) ≡ before read (k - 1) in-list 0 * widthOf recordSize f
-  unfolding sizes widthOf
-  start =
-      let w = recordSize + lineEnd f in
-      rw (found f b k e .first) (sym (add-mul (recordsBefore (k - 1) ss) 1 w ∙ rw (one-mul w)))
-
-  -- it lies in the file
-  pub start-inside : x + (recordSize + lineEnd f) ≤ length b
-  unfolding widthOf
-  start-inside =
-      let w = recordSize + lineEnd f in
-      let g = found f b k e in
-      omega (arith, part-inside f b k e, g .len, add-mul (sizes (s .movements)) 2 w)
-
-  rows-are : {m : ℕ} → m ≡ length (s .movements) → rowsFrom b f (x + (recordSize + lineEnd f)) m ≡ rowsOf (s .movements)
-  rows-are {m} q = rw start (rows-there read (k - 1) in-list m 0 (omega arith))
-
-  module _ (table : ℕ) {m : ℕ} (q : m ≡ movementsIn (checkOf july f (take (x + n - x) (drop x b)))) where
+  module _ (table : ℕ) {m : ℕ} (q : m ≡ movementsIn (checkOf july f cut)) where
     many : m ≡ length (s .movements)
-    many = q ∙ count-there f b k e
+    many = q ∙ count-there (cut-reads f b k e)
 
     -- the rows are filled
-    pub planned-rows : m ≤ table → Planned f b k table (record { answer = record { number = 0; «record» = 0; movements = m }; at = x + (recordSize + lineEnd f); rows = m })
+    pub planned-rows : m ≤ table
+        → Planned f b k table (record { answer = record { number = 0; «record» = 0; movements = m }; first = x; end = x + n; at = recordSize + lineEnd f; rows = m })
     unfolding tableAnswerOf tableOf
     planned-rows l =
         record {
           answer = sym (rw (← e, ← many, le-ltb table m l));
           inside = l;
+          ordered = omega arith;
+          ends = part-inside f b k e;
           content = λ t g. ap (λ rs. laid rs t) (rows-are many) ∙ sym (rw (← e, g, ← many, le-ltb table m l));
         }
 
@@ -138,10 +119,13 @@ module _ (f : Form) (b : List ℕ) (k : ℕ) {x n : ℕ} (e : At x n ≡ placeOf
         (record {
           answer = sym (rw (← e, ← many, lt-ltb table m l));
           inside = omega arith;
+          ordered = omega arith;
+          ends = omega arith;
           content = λ t g. sym (rw (← e, g, ← many, lt-ltb table m l));
         })
 
 -- the file's refusals, and 16
 pub planned-none : (f : Form) (b : List ℕ) (k table : ℕ) {n r : ℕ} {p : Plan} → Refused n r ≡ placeOf f b k → p ≡ noRows n r → Planned f b k table p
 unfolding tableAnswerOf tableOf rowsFrom
-planned-none f b k table e z = rw z (record { answer = sym (rw (← e)); inside = omega arith; content = λ t g. sym (rw (← e)) })
+planned-none f b k table e z =
+    rw z (record { answer = sym (rw (← e)); inside = omega arith; ordered = omega arith; ends = omega arith; content = λ t g. sym (rw (← e)) })

@@ -1,8 +1,8 @@
 -- What the code does on its way: one row after another, by a plan.
 use mathlib.Core.Path.{_≡_}
 use mathlib.Core.List.{List, [], _∷_}
-use Prim.Native.Nat.{ℕ, zero, suc, _≤_}
-use lib.ListN.{length}
+use Prim.Native.Nat.{ℕ, zero, suc, _-_, _≤_}
+use lib.ListN.{length, take, drop}
 use Rattle.framing.specs.declared.Form.{Form}
 use Rattle.fields.specs.Rows.{rowAtOf}
 use Rattle.fields.specs.declared.Movement.{Movement}
@@ -23,10 +23,16 @@ rowsFrom b f at (suc n) = rowStepOf b f at .row ∷ rowsFrom b f (rowStepOf b f 
 
 -- a refusal fills no row
 abbrev pub noRows : (n r : ℕ) → Plan
-noRows n r = record { answer = refusedTable n r; at = 0; rows = 0 }
+noRows n r = record { answer = refusedTable n r; first = 0; end = 0; at = 0; rows = 0 }
 
--- the answer for a table of so many rows, and what fills such a table
+-- the part of a file between two places
+abbrev pub between : (first end : ℕ) → List ℕ → List ℕ
+between first end b = take (end - first) (drop first b)
+
+-- the answer for a table of so many rows, and what fills such a table: rows of the statement's part of the file
 pub record Planned (f : Form) (b : List ℕ) (k table : ℕ) (p : Plan) : Type 0 where
   pub answer : p .answer ≡ tableAnswerOf f b k table
   pub inside : p .rows ≤ table
-  pub content : (t : List Movement) → length t ≡ table → laid (rowsFrom b f (p .at) (p .rows)) t ≡ tableOf f b k t
+  pub ordered : p .first ≤ p .end
+  pub ends : p .end ≤ length b
+  pub content : (t : List Movement) → length t ≡ table → laid (rowsFrom (between (p .first) (p .end) b) f (p .at) (p .rows)) t ≡ tableOf f b k t

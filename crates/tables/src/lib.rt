@@ -3,7 +3,7 @@ ghost use mathlib.Core.Path.{_≡_};
 ghost use Prim.Native.Nat.{_≤_};
 ghost use lib.ListN.{length};
 ghost use Rattle.tables.specs.Tables.{laid};
-ghost use Rattle.tables.specs.Steps.{rowStepOf, rowsFrom, noRows, Planned};
+ghost use Rattle.tables.specs.Steps.{rowStepOf, rowsFrom, noRows, between, Planned};
 ghost use Rattle.tables.specs.Answers.{Movements};
 use fields::Movement;
 use framing::Form;
@@ -23,20 +23,22 @@ struct RowStep {
     next: usize,
 }
 
-// The answer, the place of the first 04, and how many rows to fill: none on refusal.
+// The answer, the statement's part of the file, the place of its first 04 in the part, and how many rows to fill: none on refusal.
 struct Plan {
     answer: TableAnswer,
+    first: usize,
+    end: usize,
     at: usize,
     rows: usize,
 }
 
-// The row of the movement at a place, and the place after it.
-fn row_step(file: &[u8], form: Form, at: usize) -> RowStep
-    ensures { λ r. ⌜ r ≡ rowStepOf (now (file .entry)) form at ⌝ }
+// The row of the movement at a place of a part, and the place after it.
+fn row_step(part: &[u8], form: Form, at: usize) -> RowStep
+    ensures { λ r. ⌜ r ≡ rowStepOf (now (part .entry)) form at ⌝ }
 {
-    let step = readers::movement_step(file, form, at);
+    let step = readers::movement_step(part, form, at);
     RowStep {
-        row: fields::row_at(contents::record_at(file, at), step.complements),
+        row: fields::row_at(contents::record_at(part, at), step.complements),
         next: step.next,
     }
 }
@@ -50,6 +52,8 @@ fn no_rows(number: u64, at: u64) -> Plan
             record: at,
             movements: 0,
         },
+        first: 0,
+        end: 0,
         at: 0,
         rows: 0,
     }
@@ -66,14 +70,15 @@ fn plan_of(form: Form, file: &[u8], k: u64, table: usize) -> Plan
             if (table as u64) < n {
                 return no_rows(18, 0);
             }
-            let width = 120 + form.line_end as usize;
             Plan {
                 answer: TableAnswer {
                     number: 0,
                     record: 0,
                     movements: n,
                 },
-                at: first + width,
+                first,
+                end,
+                at: 120 + form.line_end as usize,
                 rows: n as usize,
             }
         }
@@ -81,19 +86,27 @@ fn plan_of(form: Form, file: &[u8], k: u64, table: usize) -> Plan
     }
 }
 
-// Rows from the first on become the n movements from a place on.
-fn fill(table: &mut [Movement], file: &[u8], form: Form, at: usize, n: usize)
+// Rows from the first on become the n movements from a place of the part on.
+fn fill(table: &mut [Movement], part: &[u8], form: Form, at: usize, n: usize)
     requires { ⌜ n ≤ length (now table) ⌝ }
-    ensures { λ _. ⌜ now (table .exit) ≡ laid (rowsFrom (now (file .entry)) form at n) (now (table .entry)) ⌝ }
+    ensures { λ _. ⌜ now (table .exit) ≡ laid (rowsFrom (now (part .entry)) form at n) (now (table .entry)) ⌝ }
 {
     let mut i = 0;
     let mut p = at;
     while i < n {
-        let r = row_step(file, form, p);
+        let r = row_step(part, form, p);
         table[i] = r.row;
         p = r.next;
         i += 1;
     }
+}
+
+// The part of a file between two places.
+fn part_of(file: &[u8], first: usize, end: usize) -> &[u8]
+    requires { ⌜ (first ≤ end) × (end ≤ length (now file)) ⌝ }
+    ensures { λ r. ⌜ now r ≡ between first end (now (file .entry)) ⌝ }
+{
+    &file[first..end]
 }
 
 // The movements of statement k, in the rows of a lent table. On refusal no row changes.
@@ -102,6 +115,6 @@ pub extern "C" fn movements(form: Form, file: &[u8], k: u64, table: &mut [Moveme
     ensures { λ r. ⌜ Movements form (now (file .entry)) k (now (table .entry)) r (now (table .exit)) ⌝ }
 {
     let p = plan_of(form, file, k, table.len());
-    fill(table, file, form, p.at, p.rows);
+    fill(table, part_of(file, p.first, p.end), form, p.at, p.rows);
     p.answer
 }

@@ -66,7 +66,7 @@ texts-back rows cs l = texts-front rows cs (omega arith) ∙ take-all (countedIn
 
 -- the texts of written complements have 73 bytes
 wide-texts : (e : List ℕ) (ts : List (List ℕ)) → All Holds (map (complement e) ts) → Wide textSize ts
-wide-texts e ts o = all-unmap (complement e) (λ t. length t ≡ textSize) Holds (λ t h. h .text) ts o
+wide-texts e ts o = all-unmap (complement e) (λ t. length t ≡ textSize) Holds (λ t h. h .1 .size) ts o
 
 -- a statement's values, made a statement again, are that statement
 pub movements-back : (k : Key) (ms : List values.Movement) → All Holds (recordsOfMovements july2004 k ms) → movementsFrom (rowsOf ms) (flat (textsOf ms)) ≡ ms

@@ -1,8 +1,8 @@
 use mathlib.Core.Path.{sym, _∙_}
 use native.Mathlib.Omega.{arith}
 use Rattle.readers.proofs.Placed.{part-inside}
-use Rattle.contents.proofs.Heading.{known-end}
-use Rattle.tables.proofs.Reading.{start-inside, planned-rows, planned-short, planned-none}
+use Rattle.contents.proofs.Moving.{single-end, single-part}
+use Rattle.tables.proofs.Reading.{planned-rows, planned-short, planned-none}
 use borrow.Author.Needs.{needs}
 use Rattle.tables.proofs.plan_of.Statement.{statement}
 use Rattle.tables.proofs.plan_of.Tie as tie
@@ -34,11 +34,8 @@ no-rows-requires c κs = search needs
 returns : tie.Need-returns
 returns c = planned-short (c .before .before .before .before .before .before .before .before .before .args .form) (c .before .before .before .before .before .before .before .before .before .args .file .now) (c .before .before .before .before .before .before .before .before .before .args .k) (sym (c .before .before .before .before .before .first .given .1) ∙ c .before .before .before .before .before .before .before .statement-place .ensures .answer) (c .before .before .before .before .before .before .before .before .before .args .table) (c .before .before .movements-in .ensures .answer) (c .before .if1 .taken) (c .no-rows .ensures)
 
-add-width : tie.Need-add-width
-add-width c = omega (arith, known-end (c .before .before .before .before .before .before .before .before .args .form) (c .before .before .before .before .before .before .before .before .args .file .now) (c .before .before .before .before .before .before .before .before .args .k) (sym (c .before .before .before .before .first .given .1) ∙ c .before .before .before .before .before .before .statement-place .ensures .answer))
-
-add-t15 : tie.Need-add-t15
-add-t15 c = omega (arith, start-inside (c .before .before .before .before .before .before .before .before .args .form) (c .before .before .before .before .before .before .before .before .args .file .now) (c .before .before .before .before .before .before .before .before .args .k) (sym (c .before .before .before .before .first .given .1) ∙ c .before .before .before .before .before .before .statement-place .ensures .answer))
+add-t20 : tie.Need-add-t20
+add-t20 c = omega (arith, single-end (single-part (c .before .before .before .before .before .before .before .before .args .form) (c .before .before .before .before .before .before .before .before .args .file .now) (c .before .before .before .before .before .before .before .before .args .k) (sym (c .before .before .before .before .first .given .1) ∙ c .before .before .before .before .before .before .statement-place .ensures .answer)))
 
 enum-known-number : tie.Need-enum-known-number
 enum-known-number c = search needs
@@ -65,8 +62,7 @@ plan-of-spec =
     movements-in-requires
     no-rows-requires
     returns
-    add-width
-    add-t15
+    add-t20
     enum-known-number
     no-rows-requires-2
     returns-2

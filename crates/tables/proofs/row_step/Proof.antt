@@ -13,7 +13,7 @@ row-at-requires : tie.Need-row-at-requires
 row-at-requires c κs = search needs
 
 returns : tie.Need-returns
-returns c = gathered (c .before .before .before .before .args .file .now) (c .before .before .before .before .args .form) (c .before .before .before .before .args .at) (c .before .before .movement-step .ensures .answer) (c .before .record-at .ensures .answer) (c .row-at .ensures .answer)
+returns c = gathered (c .before .before .before .before .args .part .now) (c .before .before .before .before .args .form) (c .before .before .before .before .args .at) (c .before .before .movement-step .ensures .answer) (c .before .record-at .ensures .answer) (c .row-at .ensures .answer)
 
 pub row-step-spec : {M : Type 1} → statement M
 row-step-spec =
