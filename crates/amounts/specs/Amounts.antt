@@ -22,12 +22,14 @@ abbrev pub placeIn : List ℕ → ℕ → ℕ
 placeIn [] b = 0
 placeIn (x ∷ xs) b = pick (eqb x b) 0 (suc (placeIn xs b))
 
+-- the place of a sign character among the twenty
 unfoldable pub signIndex : ℕ → ℕ
 signIndex b = placeIn signs b
 
 unfoldable pub signOf : List ℕ → ℕ
 signOf s = signIndex (getD s 13 0)
 
+-- the last ten are debits
 unfoldable pub isDebit : List ℕ → Bool
 isDebit s = leb 10 (signOf s)
 
@@ -44,6 +46,7 @@ signedOf false m = pos m
 abbrev pub isAmount : List ℕ → Bool
 isAmount s = (eqb (length s) 14 && all digit (take 13 s)) && ltb (signOf s) 20
 
+-- the value of fourteen bytes, or that they are no amount
 unfoldable pub amountOf : List ℕ → Amount
 amountOf s = pick (isAmount s) (Value (signedOf (isDebit s) (magnitude s))) NoAmount
 
@@ -56,6 +59,7 @@ paperAmount NoAmount = (8, pos 0)
 abbrev pub mostAmount : ℕ
 mostAmount = 99999999999999
 
+-- a value that some amount has
 unfoldable pub hasAmount : ℤ → Bool
 hasAmount v = leb (natAbs v) mostAmount
 

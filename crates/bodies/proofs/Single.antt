@@ -10,13 +10,13 @@ use borrow.Author.Tests.{eqb-true}
 use Rattle.zones.specs.Pieces.{flat}
 use Rattle.zones.proofs.Bools.{and-left, and-right, both, conj}
 use Rattle.framing.specs.declared.Form.{Form}
-use Rattle.framing.specs.Files.{endOf, widthOf, pieceOf, fileOf}
+use Rattle.framing.specs.Files.{endOf, widthOf, pieceOf, fileOf, plain}
 use Rattle.framing.proofs.Cuts.{length-flat}
 use Rattle.grammar.specs.Answer.{Answer, accepted, refused}
 use Rattle.grammar.specs.Record.{Rec}
 use Rattle.grammar.specs.Statements.{Statement, recordsOf}
 use Rattle.grammar.specs.Files.{pieces, checkOf, layoutOf, Gives, Reads, statementsOf, Writable}
-use Rattle.grammar.specs.Parts.{sizeOf, nothing}
+use Rattle.grammar.specs.Parts.{sizeOf, noStatement}
 use Rattle.grammar.proofs.Parts.{length-one}
 use Rattle.grammar.proofs.Seam.{piecesFor, wide-pieces}
 use Rattle.grammar.proofs.Exact.{gives-reads}
@@ -26,7 +26,7 @@ use Rattle.records.proofs.Lawful.{july-lawful}
 use Rattle.records.proofs.Theorems.{unique, counts, reads, own-file, writable}
 use Rattle.statements.specs.declared.Checked.the-variants as C
 use Rattle.statements.specs.Answers.{checkedOf}
-use Rattle.bodies.specs.Bodies.{plain, bodyOf, countsOne, single, statementOf}
+use Rattle.bodies.specs.Bodies.{bodyOf, countsOne, single, statementOf}
 
 -- at the code's returns
 counted : (a : Answer) {s m c : ℕ} → C.Accepted s m c ≡ checkedOf a → eqb s 1 ≡ countsOne a
@@ -47,7 +47,7 @@ module _ (b : List ℕ) where
   refused-alone e = sym (rw (not-counted (checkOf july plain b) e))
 
 -- what passes the test is a file of one statement, and this is it
-one-of : (ss : List Statement) → length ss ≡ 1 → ss ≡ getD ss 0 nothing ∷ []
+one-of : (ss : List Statement) → length ss ≡ 1 → ss ≡ getD ss 0 noStatement ∷ []
 one-of [] e = absurd (omega arith)
 one-of (s ∷ []) e = refl
 one-of (s ∷ t ∷ ss) e = absurd (omega arith)
@@ -56,7 +56,7 @@ pub single-reads : (b : List ℕ) → single b ≡ true → Reads july plain b (
 unfolding single statementOf
 single-reads b h = by (checkOf july plain b) refl (and-left (countsOne (checkOf july plain b)) _ h)
   where
-    by : (a : Answer) → checkOf july plain b ≡ a → countsOne a ≡ true → Reads july plain b (getD (statementsOf july plain b) 0 nothing ∷ [])
+    by : (a : Answer) → checkOf july plain b ≡ a → countsOne a ≡ true → Reads july plain b (getD (statementsOf july plain b) 0 noStatement ∷ [])
     by (accepted c) e g =
         let r = reads plain b e in
         let n : length (statementsOf july plain b) ≡ 1 =

@@ -8,18 +8,14 @@ use Rattle.zones.specs.Choice.{pick}
 use Rattle.zones.specs.Copy.{sameBytes}
 use Rattle.zones.specs.Pieces.{flat}
 use Rattle.framing.specs.declared.Form.{Form}
-use Rattle.framing.specs.Files.{unknownEnd, widthOf, countOf, piecesOf}
+use Rattle.framing.specs.Files.{unknownEnd, widthOf, countOf, piecesOf, plain}
 use Rattle.grammar.specs.Answer.{Answer, accepted, refused}
 use Rattle.grammar.specs.Record.{opening, closing}
 use Rattle.grammar.specs.Statements.{Statement, recordsOf}
 use Rattle.grammar.specs.Files.{statementsOf, checkOf}
-use Rattle.grammar.specs.Parts.{nothing}
+use Rattle.grammar.specs.Parts.{noStatement}
 use Rattle.records.specs.July.{recordSize, july, july2004, encodeRecord, canonRecord, noDebitZero}
 use Rattle.contents.specs.Heads.{recordAtOf}
-
--- a file without line ends
-abbrev pub plain : Form
-plain = record { «line_end» = 0 }
 
 -- the form in which the journal keeps a record: as the writer writes it
 unfoldable pub kept : List ℕ → List ℕ
@@ -51,7 +47,7 @@ single b = countsOne (checkOf july plain b) && noDebitZero (piecesOf recordSize 
 
 -- the statement that a body reads as
 unfoldable pub statementOf : List ℕ → Statement
-statementOf b = getD (statementsOf july plain b) 0 nothing
+statementOf b = getD (statementsOf july plain b) 0 noStatement
 
 -- two records are kept alike
 abbrev pub sameRecord : List ℕ → List ℕ → Bool

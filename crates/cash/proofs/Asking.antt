@@ -13,6 +13,7 @@ use lib.Seq.{drop-cons, drop-length}
 use mir.Syntax.{w64}
 use mir.Val.{toZ, ofZ}
 use borrow.Author.Tests.{eq-eqb, eqb-true, lt-ltb, le-ltb, ltb-true, ltb-false}
+use Rattle.framing.specs.Files.{plain}
 use Rattle.zones.specs.Choice.{pick}
 use Rattle.dates.specs.Days.{daysIn, exists, isDay}
 use Rattle.dates.specs.Ordinals.{beforeMonth, beforeYear, allDays, ordinalOf, ofOrdinal}
@@ -21,12 +22,12 @@ use Rattle.grammar.specs.declared.Key.{Key}
 use Rattle.grammar.specs.Record.{sameKey}
 use Rattle.grammar.specs.Statements.{Statement}
 use Rattle.grammar.specs.Files.{Reads}
-use Rattle.grammar.specs.Parts.{nothing}
+use Rattle.grammar.specs.Parts.{noStatement}
 use Rattle.records.specs.July.{recordSize, july}
 use Rattle.records.specs.declared.Look.{Look}
 use Rattle.records.specs.Looks.{lookOf}
 use Rattle.contents.specs.Heads.{recordAtOf}
-use Rattle.bodies.specs.Bodies.{plain, closingIn}
+use Rattle.bodies.specs.Bodies.{closingIn}
 use Rattle.bodies.proofs.Ends.{opening-there, opening-whole}
 use Rattle.journal_layout.specs.Chains.{ofAccount}
 use Rattle.journal.specs.Newest.{keySize, keyFrom}
@@ -215,7 +216,7 @@ module _ {j : List ℕ} {ss : List Statement} (p : Promise j ss) (x : List ℕ) 
 
   data Found : ℕ → List Statement → Type 0 where
     none : Found 0 []
-    some : (i : ℕ) (rest : List Statement) → i < length ss → Found (suc i) (getD ss i nothing ∷ rest)
+    some : (i : ℕ) (rest : List Statement) → i < length ss → Found (suc i) (getD ss i noStatement ∷ rest)
 
   found : length x ≡ keySize → (n e : ℕ) → e + n ≡ length ss → Found (firstFrom n e j x) (ofAccount k (drop e ss))
   unfolding firstFrom ofAccount
@@ -225,15 +226,15 @@ module _ {j : List ℕ} {ss : List Statement} (p : Promise j ss) (x : List ℕ) 
   found size (suc n) e h =
       let l : e < length ss = omega arith in
       let i = found size n (e + 1) (omega arith) in
-      rw (drop-cons ss e nothing l, account-there l) (by (sameKey (getD ss e nothing .key) k) l (rw (add-one e) at i))
+      rw (drop-cons ss e noStatement l, account-there l) (by (sameKey (getD ss e noStatement .key) k) l (rw (add-one e) at i))
     where
-      account-there : e < length ss → ofAccountIn x (bodyIn j (e + 1)) ≡ sameKey (getD ss e nothing .key) k
+      account-there : e < length ss → ofAccountIn x (bodyIn j (e + 1)) ≡ sameKey (getD ss e noStatement .key) k
       account-there l =
           let z : e + 1 - 1 ≡ e = omega arith in
           rw (z, eq-eqb (length x) keySize size) at (p .account x (e + 1) (omega arith) (omega arith))
 
       by : (t : Bool) → e < length ss → Found (firstFrom n (suc e) j x) (ofAccount k (drop (suc e) ss))
-          → Found (pick t (e + 1) (firstFrom n (e + 1) j x)) (pick t (getD ss e nothing ∷ ofAccount k (drop (suc e) ss)) (ofAccount k (drop (suc e) ss)))
+          → Found (pick t (e + 1) (firstFrom n (e + 1) j x)) (pick t (getD ss e noStatement ∷ ofAccount k (drop (suc e) ss)) (ofAccount k (drop (suc e) ss)))
       by true l i = rw (add-one e) (some e (ofAccount k (drop (suc e) ss)) l)
       by false l i = rw (add-one e) i
 
@@ -251,11 +252,11 @@ module _ {j : List ℕ} {ss : List Statement} (p : Promise j ss) (x : List ℕ) 
     pub list : ofAccount k ss ≡ first ∷ rest
     pub balance : lookOf (recordAtOf (bodyIn j r) 0) .amount ≡ first .old-balance
 
-  old-there : (i : ℕ) → i < length ss → lookOf (recordAtOf (bodyIn j (suc i)) 0) .amount ≡ getD ss i nothing .old-balance
+  old-there : (i : ℕ) → i < length ss → lookOf (recordAtOf (bodyIn j (suc i)) 0) .amount ≡ getD ss i noStatement .old-balance
   unfolding lookOf
   old-there i l =
       let z : suc i - 1 ≡ i = omega arith in
-      let r : Reads july plain (bodyIn j (suc i)) (getD ss i nothing ∷ []) = rw z at (p .reads (suc i) (omega arith) (omega arith)) in
+      let r : Reads july plain (bodyIn j (suc i)) (getD ss i noStatement ∷ []) = rw z at (p .reads (suc i) (omega arith) (omega arith)) in
       rw (eq-eqb (length (recordAtOf (bodyIn j (suc i)) 0)) recordSize (opening-whole r)) (opening-there r .amount)
 
   pub some-held : {r : ℕ} → r ≡ firstFrom (length ss) 0 j x → (r ≡ 0 → ⊥) → First r × (noAccount x ss ≡ false)
@@ -265,7 +266,7 @@ module _ {j : List ℕ} {ss : List Statement} (p : Promise j ss) (x : List ℕ) 
       by : (size : length x ≡ keySize) {n : ℕ} {l : List Statement} → Found n l → ofAccount k ss ≡ l → n ≡ r → First r × (noAccount x ss ≡ false)
       by size none q u = absurd (h (sym u))
       by size (some i rest l) q u = (
-        record { size = size; first = getD ss i nothing; rest = rest; list = q; balance = rw (← u) (old-there i l) },
+        record { size = size; first = getD ss i noStatement; rest = rest; list = q; balance = rw (← u) (old-there i l) },
         rw (eq-eqb (length x) keySize size, q),
       )
 

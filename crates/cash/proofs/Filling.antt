@@ -18,12 +18,12 @@ use mir.Val.{toZ, ofZ}
 use Rattle.amounts.specs.Amounts.{mostAmount}
 use Rattle.amounts.proofs.Whole.{back}
 use Rattle.dates.specs.Ordinals.{ordinalOf}
-use Rattle.framing.specs.Files.{widthOf}
+use Rattle.framing.specs.Files.{widthOf, plain}
 use Rattle.grammar.specs.declared.Key.{Key}
 use Rattle.grammar.specs.Record.{Posting, movement, closing, sameKey}
 use Rattle.grammar.specs.Statements.{Movement, Statement, sizes, allRecords}
 use Rattle.grammar.specs.Files.{Reads}
-use Rattle.grammar.specs.Parts.{recordsBefore, nothing}
+use Rattle.grammar.specs.Parts.{recordsBefore, noStatement}
 use Rattle.grammar.proofs.Rows.{addsThen, movesThen}
 use Rattle.records.specs.July.{recordSize, repeats, july, july2004, decodeRecord}
 use Rattle.records.specs.declared.Look.{Look}
@@ -39,7 +39,6 @@ use Rattle.contents.specs.Movements.{noMovement}
 use Rattle.contents.proofs.Records.{HoldsAt, record-there}
 use Rattle.contents.proofs.Heading.{length-part}
 use Rattle.contents.proofs.Moving.{row-held}
-use Rattle.bodies.specs.Bodies.{plain}
 use Rattle.journal_layout.specs.Chains.{ofAccount}
 use Rattle.journal_layout.proofs.Chain.{account-append}
 use Rattle.journal.specs.Arrivals.{movementsIn}
@@ -261,7 +260,7 @@ module _ {j : List ℕ} {ss : List Statement} (p : Promise j ss) (x : List ℕ) 
   module _ {now : List ℤ} {e : ℕ} (w : Entered k ss t first now e) where
     module _ (h : e < length ss) where
       abbrev s : Statement
-      s = getD ss e nothing
+      s = getD ss e noStatement
 
       pub reads-there : Reads july plain (bodyIn j (e + 1)) (s ∷ [])
       reads-there =
@@ -274,7 +273,7 @@ module _ {j : List ℕ} {ss : List Statement} (p : Promise j ss) (x : List ℕ) 
           rw (z, eq-eqb (length x) keySize size) at (p .account x (e + 1) (omega arith) (omega arith))
 
       split : ss ≡ take e ss ++ (s ∷ drop (suc e) ss)
-      split = sym (take-append-drop e ss) ∙ rw (drop-cons ss e nothing h)
+      split = sym (take-append-drop e ss) ∙ rw (drop-cons ss e noStatement h)
 
       dated-split : datedOf k ss ≡ datedOf k (take e ss) ++ (datedOf k (s ∷ []) ++ datedOf k (drop (suc e) ss))
       dated-split =
@@ -298,7 +297,7 @@ module _ {j : List ℕ} {ss : List Statement} (p : Promise j ss) (x : List ℕ) 
           → Entered k ss t first now′ (e + 1)
       entered {now′} f =
           let d : datedOf k (take (e + 1) ss) ≡ datedOf k (take e ss) ++ datedOf k (s ∷ []) =
-          ap (λ (n : ℕ). datedOf k (take n ss)) (add-one e) ∙ ap (datedOf k) (take-suc ss e nothing h) ∙ dated-append k (take e ss) (s ∷ []) in
+          ap (λ (n : ℕ). datedOf k (take n ss)) (add-one e) ∙ ap (datedOf k) (take-suc ss e noStatement h) ∙ dated-append k (take e ss) (s ∷ []) in
           let a : now′ ≡ pick (sameKey (s .key) k) (filled first now (datedIn s)) now = rw account-there at (f s reads-there) in
           let q : now′ ≡ filled first t (datedOf k (take (e + 1) ss)) =
           a

@@ -13,4 +13,5 @@ pub mod Made
 pub mod Positioned
 pub mod Theorems
 pub mod Examples
+pub mod Paper
 pub mod One

@@ -4,10 +4,10 @@ use mathlib.Core.Bool.{Bool, true, false, not, _&&_, _||_}
 use mathlib.Core.List.{List, _++_, map}
 use Prim.Native.Nat.{ℕ, _+_, _-_, _<_, _≤_}
 use native.Mathlib.Omega.{arith}
-use lib.Dec.{ltb}
+use lib.Dec.{eqb, ltb}
 use lib.ListN.{length, drop}
 use lib.IntN.{ℤ}
-use borrow.Author.Tests.{lt-ltb, le-ltb, ltb-false}
+use borrow.Author.Tests.{ne-eqb, lt-ltb, le-ltb, ltb-false}
 use Rattle.zones.specs.Choice.{pick}
 use Rattle.dates.specs.Days.{isDay}
 use Rattle.dates.specs.Ordinals.{ordinalOf}
@@ -21,7 +21,7 @@ use Rattle.journal.specs.Newest.{keyFrom}
 use Rattle.journal.specs.Holdings.{holdingOf, bodyIn}
 use Rattle.journal.specs.declared.Holding.the-variants as H
 use Rattle.journal.proofs.Promises.{promise}
-use Rattle.packing.specs.Packing.{Fits, answeredOf, refusedOf}
+use Rattle.packing.specs.Packing.{Fits, refused, packed, answeredOf, refusedOf}
 use Rattle.packing.proofs.Packing.{a-back, b-back, kind-back, answered-fits, refused-fits}
 use Rattle.cash.specs.declared.Outcome.{Outcome}
 use Rattle.cash.specs.declared.Outcome.the-variants.{Filled, Refused}
@@ -30,7 +30,7 @@ use Rattle.cash.specs.Spans.{mostDays, spanDays, noSpan, daysFrom}
 use Rattle.cash.specs.Positions.{noAccount, positionOf, amountsOf, tableOf}
 use Rattle.cash.specs.Buckets.{dated, rowOf}
 use Rattle.cash.specs.Calls.{spanOf, firstFrom, Opening}
-use Rattle.cash.specs.Answers.{paperPosition, packedPosition, positionIn, Positions, PositionNumber}
+use Rattle.cash.specs.Answers.{PaperPosition, paperPosition, packedPosition, paperPositionIn, Positions, PositionNumber}
 use Rattle.cash.proofs.Spans.{amounts-row}
 use Rattle.cash.proofs.Account.{account-days}
 use Rattle.cash.proofs.Asking.{Spanned, spanned, not-spanned, First, some-held, none-held}
@@ -128,7 +128,7 @@ module _ (j x : List ℕ) (first last : ℕ) (t : List ℤ) (sound : soundIn j �
 -- how large its numbers can be
 abbrev pub PositionBounds : Outcome → Type 0
 PositionBounds (Filled n) = n ≤ mostDays
-PositionBounds (Refused n r) = (n ≤ 27) × (r ≡ 0)
+PositionBounds (Refused n r) = ((1 ≤ n) × (n ≤ 27)) × (r ≡ 0)
 
 pub position-bounds : (j x : List ℕ) (first last room : ℕ) → PositionBounds (positionOf j x first last room)
 unfolding positionOf noSpan
@@ -140,49 +140,63 @@ position-bounds j x first last room =
         (pick a
         (pick (b || (c || d)) (Refused 27 0) (pick e (Refused 25 0) (pick f (Refused 18 0) (Filled (spanDays first last)))))
         (Refused 21 0))
-    by false b c d z e f = (omega arith, refl)
-    by true true c d z e f = (omega arith, refl)
-    by true false true d z e f = (omega arith, refl)
-    by true false false true z e f = (omega arith, refl)
-    by true false false false z true f = (omega arith, refl)
-    by true false false false z false true = (omega arith, refl)
+    by false b c d z e f = ((omega arith, omega arith), refl)
+    by true true c d z e f = ((omega arith, omega arith), refl)
+    by true false true d z e f = ((omega arith, omega arith), refl)
+    by true false false true z e f = ((omega arith, omega arith), refl)
+    by true false false false z true f = ((omega arith, omega arith), refl)
+    by true false false false z false true = ((omega arith, omega arith), refl)
     by true false false false z false false = ltb-false mostDays (spanDays first last) z
 
 filled-fits : {n : ℕ} → n ≤ mostDays → Fits 0 n 0 0
 filled-fits k = record { kind-fits = omega arith; a-fits = omega arith; b-fits = omega arith; c-fits = omega arith }
 
-refusal-fits : {n r : ℕ} → (n ≤ 27) × (r ≡ 0) → Fits 1 r n 0
+refusal-fits : {n r : ℕ} → ((1 ≤ n) × (n ≤ 27)) × (r ≡ 0) → Fits 1 r n 0
 refusal-fits k =
-    let p = k .0 in
+    let p = k .0 .1 in
     let q = k .1 in
     record { kind-fits = omega arith; a-fits = omega arith; b-fits = omega arith; c-fits = omega arith }
+
+-- a refusal has a number
+numbered : {n r : ℕ} → ((1 ≤ n) × (n ≤ 27)) × (r ≡ 0) → eqb n 0 ≡ false
+numbered {n} k = let p = k .0 .0 in ne-eqb n 0 (λ z. omega arith)
 
 -- at the code's returns
 module _ (j x : List ℕ) (first last : ℕ) (t : List ℤ) {m : ℕ} {t′ : List ℤ} where
   pub filled-number : {n : ℕ} → m ≡ answeredOf n 0 0 → Positions j x first last t (Filled n) t′ → PositionNumber j x first last t m t′
   filled-number {n} e g =
       let k : n ≤ mostDays = rw (← g .answer) at (position-bounds j x first last (length t)) in
-      record { answer = e ∙ answered-fits (filled-fits k) ∙ ap packedPosition (g .answer); content = g .content }
+      record { answer = e ∙ answered-fits (filled-fits k) ∙ ap (λ a. packedPosition (paperPosition a)) (g .answer); content = g .content }
 
   pub refused-number : {n r : ℕ} → m ≡ refusedOf n r → Positions j x first last t (Refused n r) t′ → PositionNumber j x first last t m t′
   refused-number {n} {r} e g =
-      let k : (n ≤ 27) × (r ≡ 0) = rw (← g .answer) at (position-bounds j x first last (length t)) in
-      record { answer = e ∙ refused-fits (refusal-fits k) ∙ ap packedPosition (g .answer); content = g .content }
+      let k : ((1 ≤ n) × (n ≤ 27)) × (r ≡ 0) = rw (← g .answer) at (position-bounds j x first last (length t)) in
+      let z : refused n r ≡ packed n r 0 0 0 = rw (numbered k) in
+      record { answer = e ∙ refused-fits (refusal-fits k) ∙ z ∙ ap (λ a. packedPosition (paperPosition a)) (g .answer); content = g .content }
 
--- THE NUMBER UNPACKS to the paper's answer, and one number stands for one answer
-position-back : (r : Outcome) → PositionBounds r → positionIn (packedPosition r) ≡ r
+-- THE BITS ARE THE PAPER'S ANSWER, and one number stands for one answer
+position-back : (r : Outcome) → PositionBounds r → paperPositionIn (packedPosition (paperPosition r)) ≡ paperPosition r
 position-back (Filled n) k = let f = filled-fits k in rw (kind-back f, a-back f)
-position-back (Refused n r) k = let f = refusal-fits k in rw (kind-back f, a-back f, b-back f)
-
-pub position-unpacked : {j x : List ℕ} {first last : ℕ} {t : List ℤ} {m : ℕ} {t′ : List ℤ} → PositionNumber j x first last t m t′
-    → positionIn m ≡ positionOf j x first last (length t)
-position-unpacked {j} {x} {first} {last} {t} g =
-    ap positionIn (g .answer) ∙ position-back (positionOf j x first last (length t)) (position-bounds j x first last (length t))
+position-back (Refused n r) k = let f = refusal-fits k in rw (numbered k, kind-back f, a-back f, b-back f)
 
 pub position-paper : {j x : List ℕ} {first last : ℕ} {t : List ℤ} {m : ℕ} {t′ : List ℤ} → PositionNumber j x first last t m t′
-    → paperPosition (positionIn m) ≡ paperPosition (positionOf j x first last (length t))
-position-paper g = ap paperPosition (position-unpacked g)
+    → paperPositionIn m ≡ paperPosition (positionOf j x first last (length t))
+position-paper {j} {x} {first} {last} {t} g =
+    ap paperPositionIn (g .answer) ∙ position-back (positionOf j x first last (length t)) (position-bounds j x first last (length t))
+
+-- the record determines the answer
+abbrev positionFrom : PaperPosition → Outcome
+positionFrom p = pick (eqb (p .number) 0) (Filled (p .days)) (Refused (p .number) (p .at))
+
+from-paper : (r : Outcome) → PositionBounds r → positionFrom (paperPosition r) ≡ r
+from-paper (Filled n) k = refl
+from-paper (Refused n r) k = rw (numbered k)
+
+pub paper-apart : {r q : Outcome} → PositionBounds r → PositionBounds q → paperPosition r ≡ paperPosition q → r ≡ q
+paper-apart {r} {q} k l p = sym (from-paper r k) ∙ ap positionFrom p ∙ from-paper q l
 
 pub position-apart : {j i x y : List ℕ} {first last f l : ℕ} {t u : List ℤ} {m : ℕ} {t′ u′ : List ℤ} → PositionNumber j x first last t m t′ → PositionNumber i y f l u m u′
     → positionOf j x first last (length t) ≡ positionOf i y f l (length u)
-position-apart g h = sym (position-unpacked g) ∙ position-unpacked h
+position-apart {j} {i} {x} {y} {first} {last} {f} {l} {t} {u} g h =
+    paper-apart {r = positionOf j x first last (length t)} {q = positionOf i y f l (length u)} (position-bounds j x first last (length t)) (position-bounds i y f l (length u))
+    (sym (position-paper g) ∙ position-paper h)

@@ -14,15 +14,15 @@ use Rattle.zones.specs.Choice.{pick}
 use Rattle.dates.specs.Days.{isDay}
 use Rattle.dates.specs.Ordinals.{allDays, ordinalOf, nextDay, dayAfter, ofOrdinal}
 use Rattle.dates.proofs.Ordinals.{ordinal-below, ordinal-order, ordinal-of, of-ordinal, of-ordinal-day, not-last}
-use Rattle.framing.specs.Files.{All, widthOf}
+use Rattle.framing.specs.Files.{All, widthOf, plain}
 use Rattle.grammar.specs.declared.Key.{Key}
 use Rattle.grammar.specs.Statements.{Statement}
-use Rattle.grammar.specs.Parts.{nothing}
+use Rattle.grammar.specs.Parts.{noStatement}
 use Rattle.grammar.proofs.Tests.{clash}
 use Rattle.records.specs.July.{recordSize, amountIn}
 use Rattle.records.specs.Looks.{lookOf}
 use Rattle.fields.specs.declared.Valued.{Valued}
-use Rattle.bodies.specs.Bodies.{plain, closingIn}
+use Rattle.bodies.specs.Bodies.{closingIn}
 use Rattle.bodies.proofs.Ends.{closing-there, closing-whole}
 use Rattle.journal_layout.specs.Chains.{ofAccount}
 use Rattle.journal_layout.specs.Test.{soundIn, heldOf}
@@ -222,7 +222,7 @@ nothing-there = refl
 
 module _ (j : List ℕ) (sound : soundIn j ≡ true) (e : ℕ) where
   -- of a sound journal it is the statement's new balance, and 0 where there is no such entry
-  pub entry-balance : 0 < e → e ≤ length (heldOf j) → balanceIn j e ≡ getD (heldOf j) (e - 1) nothing .new-balance
+  pub entry-balance : 0 < e → e ≤ length (heldOf j) → balanceIn j e ≡ getD (heldOf j) (e - 1) noStatement .new-balance
   unfolding balanceIn
   entry-balance p q = let r = promise j sound .reads e p q in look-amount (closingIn plain (bodyIn j e)) (closing-whole r) ∙ closing-there r .amount
 

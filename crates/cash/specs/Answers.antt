@@ -4,8 +4,7 @@ use mathlib.Core.List.{List}
 use Prim.Native.Nat.{ℕ}
 use lib.ListN.{length}
 use lib.IntN.{ℤ}
-use Rattle.zones.specs.Choice.{pick}
-use Rattle.packing.specs.Packing.{aIn, bIn, isAnswer, answered, refused}
+use Rattle.packing.specs.Packing.{aIn, packed, numberIn, recordIn, valueIn}
 use Rattle.cash.specs.declared.Outcome.{Outcome}
 use Rattle.cash.specs.declared.Outcome.the-variants.{Filled, Refused}
 use Rattle.cash.specs.Spans.{laterDay}
@@ -21,14 +20,13 @@ abbrev pub paperPosition : Outcome → PaperPosition
 paperPosition (Filled n) = record { number = 0; at = 0; days = n }
 paperPosition (Refused n r) = record { number = n; at = r; days = 0 }
 
--- the answer as one number: a is the number of days
-abbrev pub packedPosition : Outcome → ℕ
-packedPosition (Filled n) = answered n 0 0
-packedPosition (Refused n r) = refused n r
+-- as one number: a is the number of days
+abbrev pub packedPosition : PaperPosition → ℕ
+packedPosition p = packed (p .number) (p .at) (p .days) 0 0
 
--- and back
-abbrev pub positionIn : ℕ → Outcome
-positionIn n = pick (isAnswer n) (Filled (aIn n)) (Refused (bIn n) (aIn n))
+-- and back, from the bits
+abbrev pub paperPositionIn : ℕ → PaperPosition
+paperPositionIn n = record { number = numberIn n; at = recordIn n; days = valueIn n (aIn n) }
 
 -- position
 pub record Positions (j x : List ℕ) (first last : ℕ) (t : List ℤ) (r : Outcome) (t′ : List ℤ) : Type 0 where
@@ -37,7 +35,7 @@ pub record Positions (j x : List ℕ) (first last : ℕ) (t : List ℤ) (r : Out
 
 -- crownhazel_position
 pub record PositionNumber (j x : List ℕ) (first last : ℕ) (t : List ℤ) (r : ℕ) (t′ : List ℤ) : Type 0 where
-  pub answer : r ≡ packedPosition (positionOf j x first last (length t))
+  pub answer : r ≡ packedPosition (paperPosition (positionOf j x first last (length t)))
   pub content : t′ ≡ tableOf j x first last t
 
 -- crownhazel_balance

@@ -6,12 +6,11 @@ use Prim.Native.Nat.{ℕ, zero, suc, _+_, _-_, _^_, _<_}
 use lib.ListN.{length, getD}
 use lib.IntN.{ℤ, pos, natAbs, _+ℤ_}
 use Rattle.zones.specs.Choice.{pick}
-use Rattle.framing.specs.Files.{All}
+use Rattle.framing.specs.Files.{All, plain}
 use Rattle.grammar.specs.Statements.{Statement}
 use Rattle.grammar.specs.Files.{Reads}
 use Rattle.records.specs.July.{july}
 use Rattle.fields.specs.declared.Valued.{Valued}
-use Rattle.bodies.specs.Bodies.{plain}
 use Rattle.journal_layout.specs.Chains.{ofAccount}
 use Rattle.journal_layout.specs.Test.{soundIn, heldOf}
 use Rattle.journal.specs.Newest.{keySize, keyFrom}

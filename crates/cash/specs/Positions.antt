@@ -5,11 +5,12 @@ use Prim.Native.Nat.{ℕ}
 use lib.Dec.{eqb, ltb}
 use lib.ListN.{length, drop}
 use lib.IntN.{ℤ}
+use Rattle.framing.specs.Files.{plain}
 use Rattle.zones.specs.Choice.{pick}
 use Rattle.grammar.specs.declared.Key.{Key}
 use Rattle.grammar.specs.Statements.{Statement}
 use Rattle.records.specs.Looks.{lookOf}
-use Rattle.bodies.specs.Bodies.{plain, closingIn}
+use Rattle.bodies.specs.Bodies.{closingIn}
 use Rattle.journal_layout.specs.Chains.{ofAccount}
 use Rattle.journal_layout.specs.Test.{soundIn, heldOf}
 use Rattle.journal.specs.Newest.{keySize, keyFrom}

@@ -17,9 +17,9 @@ use Rattle.codes.specs.Annex.{Family, OPCA, OPPF, OPET, OPTB, AGFR, OPFI
 unfoldable pub charValue : ℕ → ℕ
 charValue b = pick (between 48 57 b) (b - 48) (pick (between 65 90 b) (10 + (b - 65)) 36)
 
--- the index of a code: 36 times the first character plus the sepick
+-- the index of a code: 36 times the first character plus the second
 abbrev pub indexOf : ℕ → ℕ → ℕ
-indexOf first sepick = 36 * charValue first + charValue sepick
+indexOf first second = 36 * charValue first + charValue second
 
 -- the index of a code in quotes
 abbrev pub index : String → ℕ
@@ -66,14 +66,14 @@ codeTable = tabulate numberAt 0 1296
 
 -- the number in a table of the code of two bytes: 0 where one is outside A-Z, 0-9
 unfoldable pub numberIn : List ℕ → ℕ → ℕ → ℕ
-numberIn table first sepick =
+numberIn table first second =
     pick (leb 36 (charValue first)) 0
-    (pick (leb 36 (charValue sepick)) 0
-    (getD table (indexOf first sepick) 0))
+    (pick (leb 36 (charValue second)) 0
+    (getD table (indexOf first second) 0))
 
 -- the number of a code by annex 2
 abbrev pub numberOf : ℕ → ℕ → ℕ
-numberOf first sepick = numberIn codeTable first sepick
+numberOf first second = numberIn codeTable first second
 
 -- the two lowest bits: debit tick, credit tick
 abbrev pub debitOf : ℕ → Bool
@@ -106,8 +106,8 @@ markFor n amount = pick (eqb n 1) 1 (pick (eqb n 0) 2 (pick (signTicked n amount
 
 -- the mark of a movement with this code and amount, by a table
 abbrev pub markIn : List ℕ → ℕ → ℕ → ℤ → ℕ
-markIn table first sepick amount = markFor (numberIn table first sepick) amount
+markIn table first second amount = markFor (numberIn table first second) amount
 
 -- the same by annex 2
 abbrev pub markOf : ℕ → ℕ → ℤ → ℕ
-markOf first sepick amount = markIn codeTable first sepick amount
+markOf first second amount = markIn codeTable first second amount

@@ -15,12 +15,12 @@ use Rattle.framing.specs.Files.{widthOf, countOf, unknownEnd}
 use Rattle.framing.specs.Frames.{frameBy}
 use Rattle.framing.proofs.Cuts.{length-chunks}
 use Rattle.grammar.specs.Answer as G
-use Rattle.grammar.specs.Answer.{Rule, ruled, Counts, Answer, first, cut, whole}
+use Rattle.grammar.specs.Answer.{Rule, isRuled, Counts, Answer, first, cut, whole}
 use Rattle.grammar.specs.Record.{Rec, opening, movement, complement, closing}
 use Rattle.grammar.specs.Since.{sinceOpening, tally}
 use Rattle.grammar.specs.Statements.{Statement, recordsOf, allRecords, countsOf}
 use Rattle.grammar.specs.Files.{recOf, pieces, Reads, checkOf, statementsOf, rulesAfter, appliesIn, Ruled, line, multiple, many, records}
-use Rattle.grammar.specs.Parts.{sizeOf, recordsBefore, nothing}
+use Rattle.grammar.specs.Parts.{sizeOf, recordsBefore, noStatement}
 use Rattle.grammar.proofs.Parts.{length-one}
 use Rattle.records.specs.July.{recordSize, mostInFile, july, july2004}
 use Rattle.records.proofs.Theorems as T
@@ -56,11 +56,11 @@ abbrev Listed : List Rule → Type 0
 Listed [] = Unit
 Listed (x ∷ xs) = ((4 ≤ x .number) × (x .number ≤ lastRefusal)) × Listed xs
 
-listed : (k : ℕ) (xs : List Rule) → Listed xs → ruled k xs ≡ true → (4 ≤ k) × (k ≤ lastRefusal)
+listed : (k : ℕ) (xs : List Rule) → Listed xs → isRuled k xs ≡ true → (4 ≤ k) × (k ≤ lastRefusal)
 listed k [] l h = absurd (false≢true h)
 listed k (x ∷ xs) l h = by (x .applies) (eqb (x .number) k) refl h (listed k xs (l .1))
   where
-    by : (t u : Bool) → eqb (x .number) k ≡ u → (t && u || ruled k xs) ≡ true → (ruled k xs ≡ true → (4 ≤ k) × (k ≤ lastRefusal)) → (4 ≤ k) × (k ≤ lastRefusal)
+    by : (t u : Bool) → eqb (x .number) k ≡ u → (t && u || isRuled k xs) ≡ true → (isRuled k xs ≡ true → (4 ≤ k) × (k ≤ lastRefusal)) → (4 ≤ k) × (k ≤ lastRefusal)
     by true true e g ih = let z = eqb-true (x .number) k e in (omega arith, omega arith)
     by true false e g ih = ih g
     by false u e g ih = ih g
@@ -89,8 +89,8 @@ module _ (f : Form) (b : List ℕ) where
   applied {k} {i} h =
       let ps = pieces july f b in
       let rules = rulesAfter july f (sinceOpening (map (recOf july) (take i ps))) (getD ps i []) in
-      let z = listed k rules (omega arith) (and-right (ltb i (length ps)) (ruled k rules) h) in
-      record { behind = z .0; listed-there = z .1; within = ltb-true i (length ps) (and-left (ltb i (length ps)) (ruled k rules) h) }
+      let z = listed k rules (omega arith) (and-right (ltb i (length ps)) (isRuled k rules) h) in
+      record { behind = z .0; listed-there = z .1; within = ltb-true i (length ps) (and-left (ltb i (length ps)) (isRuled k rules) h) }
 
   bounded : {a : Answer} → Ruled july f b a → CheckBounds (checkedOf a)
   bounded (line p e) = rw e (record { some = omega arith; listed = omega arith; near = omega arith })
@@ -213,7 +213,7 @@ module _ (j : List ℕ) (e : ℕ) where
       let most = g .most in
       record {
         line = recordsBefore (e - 1) ss;
-        records = sizeOf (getD ss (e - 1) nothing);
+        records = sizeOf (getD ss (e - 1) noStatement);
         begins = s .first;
         runs = s .len;
         low = omega arith;

@@ -12,13 +12,14 @@ use Rattle.framing.specs.declared.Frame.{Frame}
 use Rattle.framing.specs.declared.Frame.the-variants as F
 use Rattle.framing.specs.Files.{unknownEnd, uneven, tooMany}
 use Rattle.framing.specs.Frames.{frameOf, frameBy}
+use Rattle.framing.specs.Answers.{paperFrame}
 use Rattle.framing.proofs.Framing.{frame-length}
 use Rattle.grammar.specs.Answer.{Answer, refused, first, cut, whole}
 use Rattle.grammar.specs.Files.{checkOf, Ruled, line, multiple, many, records}
 use Rattle.grammar.proofs.Tests.{clash}
 use Rattle.records.specs.July.{recordSize, mostInFile, july}
 use Rattle.records.proofs.Theorems.{ruled}
-use Rattle.statements.specs.Answers.{checkedOf}
+use Rattle.statements.specs.Answers.{checkedOf, paperCheck}
 use Rattle.statements.proofs.Framed.{framed}
 use Rattle.collector.specs.Packing.{packedCheck, packedLength}
 use Rattle.collector.specs.Answers.{form, lengthAnswer, CheckNumber, LengthNumber}
@@ -71,7 +72,7 @@ module _ (e : ℕ) (b : List ℕ) where
       by : (r : Frame) → r ≡ lengthAnswer e (length b) → CheckNumber e b n
       by (F.Records w m) p =
           absurd (let f = records-fits (rw (← p) at (length-bounds e (length b))) in
-          let z : kindIn n ≡ 0 = ap kindIn (g .answer ∙ ap packedLength (sym p)) ∙ kind-back f in
+          let z : kindIn n ≡ 0 = ap kindIn (g .answer ∙ ap (λ a. packedLength (paperFrame a)) (sym p)) ∙ kind-back f in
           omega arith)
       by (F.Refused m) p =
-          record { answer = g .answer ∙ ap packedLength (sym p) ∙ ap (λ a. packedCheck (checkedOf a)) (sym (length-first p)) }
+          record { answer = g .answer ∙ ap (λ a. packedLength (paperFrame a)) (sym p) ∙ ap (λ a. packedCheck (paperCheck (checkedOf a))) (sym (length-first p)) }

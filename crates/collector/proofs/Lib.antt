@@ -5,4 +5,5 @@ pub mod Rows
 pub mod Listed
 pub mod Lengths
 pub mod Beginnings
+pub mod Demands
 pub mod One

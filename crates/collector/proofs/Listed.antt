@@ -6,10 +6,11 @@ use Prim.Native.Nat.{ℕ, _-_, _*_, _≤_}
 use native.Mathlib.Omega.{arith}
 use lib.ListN.{length, drop, getD}
 use borrow.Author.Tests.{le-ltb, ne-eqb}
-use Rattle.grammar.specs.Parts.{sizeOf, recordsBefore, nothing}
+use Rattle.grammar.specs.Parts.{sizeOf, recordsBefore, noStatement}
 use Rattle.records.specs.July.{recordSize}
 use Rattle.readers.specs.declared.Place.{Place}
 use Rattle.readers.specs.declared.Place.the-variants as P
+use Rattle.readers.specs.Answers.{paperPlace}
 use Rattle.entries.specs.Entries.{lineAt, entryBytes, rowSize, rowOf}
 use Rattle.journal_layout.specs.Layout.{rowFor}
 use Rattle.journal_layout.specs.Test.{soundIn, heldOf, entryPlaceOf, listedPlaceOf}
@@ -26,13 +27,13 @@ module _ (j : List ℕ) (e : ℕ) (row : List ℕ) (h : soundIn j ≡ true) (l :
   as-entry = roomy (listedPlaceOf j e) ∙ listed-sound j e h
 
   pub listed-entry : {n : ℕ} {row′ : List ℕ} → ListedNumber j e row n row′ → EntryNumber j e n
-  listed-entry g = record { answer = g .answer ∙ ap packedEntry as-entry }
+  listed-entry g = record { answer = g .answer ∙ ap (λ a. packedEntry (paperPlace a)) as-entry }
 
   pub listed-says : {n : ℕ} {row′ : List ℕ} → 1 ≤ e → e ≤ length (heldOf j) → ListedNumber j e row n row′
-      → row′ ≡ rowFor (getD (heldOf j) (e - 1) nothing) ++ drop rowSize row
+      → row′ ≡ rowFor (getD (heldOf j) (e - 1) noStatement) ++ drop rowSize row
   unfolding entryPlaceOf
   listed-says a b g =
       let ss = heldOf j in
-      let z : entryPlaceOf j e ≡ P.At (lineAt (recordsBefore (e - 1) ss)) (recordSize * sizeOf (getD ss (e - 1) nothing)) =
+      let z : entryPlaceOf j e ≡ P.At (lineAt (recordsBefore (e - 1) ss)) (recordSize * sizeOf (getD ss (e - 1) noStatement)) =
       rw (h, ne-eqb e 0 (λ n. omega arith), le-ltb (length ss) e b) in
       g .content ∙ ap (λ r. contentBy r (rowOf (entryBytes j (e - 1))) row) (as-entry ∙ z) ∙ ap (λ x. x ++ drop rowSize row) (listed-row j h e a b)

@@ -8,29 +8,33 @@ use Rattle.zones.specs.Choice.{pick}
 use Rattle.framing.specs.declared.Form.{Form}
 use Rattle.framing.specs.declared.Frame.{Frame}
 use Rattle.framing.specs.Frames.{frameBy}
+use Rattle.framing.specs.Answers.{paperFrame}
 use Rattle.grammar.specs.Files.{checkOf}
 use Rattle.records.specs.July.{recordSize, mostInFile, july}
 use Rattle.statements.specs.declared.Checked.{Checked}
-use Rattle.statements.specs.Answers.{checkedOf}
+use Rattle.statements.specs.Answers.{checkedOf, paperCheck}
 use Rattle.readers.specs.declared.Place.{Place}
 use Rattle.readers.specs.declared.Place.the-variants as P
+use Rattle.readers.specs.Answers.{paperPlace}
 use Rattle.contents.specs.declared.Beginning.{Beginning}
 use Rattle.contents.specs.Earliest.{beginningOf}
+use Rattle.contents.specs.Answers.{paperBeginning}
 use Rattle.entries.specs.Entries.{rowSize, entryBytes, rowOf}
 use Rattle.journal_layout.specs.declared.Opening.{Opening}
 use Rattle.journal_layout.specs.declared.Opening.the-variants.{Opened, Refused}
 use Rattle.journal_layout.specs.Layout.{isLength, openedOf}
 use Rattle.journal_layout.specs.Test.{entryPlaceOf, listedPlaceOf, usageOf}
+use Rattle.journal_layout.specs.Answers.{paperOpening, paperUsage}
 use Rattle.journal.specs.declared.Delivery.{Delivery}
 use Rattle.journal.specs.Delivery.{outcomeOf, contentOf}
-use Rattle.journal.specs.Answers.{answerOf}
+use Rattle.journal.specs.Answers.{answerOf, paperDelivery}
 use Rattle.collector.specs.Packing.{packedCheck, packedOpening, packedDelivery, packedEntry, packedUsage, packedLength, packedBeginning}
 
 -- the form of a file with a line-end number
 abbrev pub form : ℕ → Form
 form e = record { «line_end» = e }
 
--- the answers that are packed; of an entry it is `entryPlaceOf`, of what is used `usageOf`
+-- the answers whose paper's records are packed; of an entry it is `entryPlaceOf`, of what is used `usageOf`
 abbrev pub checkAnswer : (e : ℕ) → List ℕ → Checked
 checkAnswer e b = checkedOf (checkOf july (form e) b)
 
@@ -66,35 +70,35 @@ earliestAnswer e b = beginningOf (form e) b
 
 -- crownhazel_check
 pub record CheckNumber (e : ℕ) (b : List ℕ) (r : ℕ) : Type 0 where
-  pub answer : r ≡ packedCheck (checkAnswer e b)
+  pub answer : r ≡ packedCheck (paperCheck (checkAnswer e b))
 
 -- crownhazel_open
 pub record OpenNumber (j : List ℕ) (r : ℕ) (j′ : List ℕ) : Type 0 where
-  pub answer : r ≡ packedOpening (openAnswer j)
+  pub answer : r ≡ packedOpening (paperOpening (openAnswer j))
   pub content : j′ ≡ openedOf j
 
 -- crownhazel_deliver
 pub record DeliverNumber (j : List ℕ) (e : ℕ) (b : List ℕ) (r : ℕ) (j′ : List ℕ) : Type 0 where
-  pub answer : r ≡ packedDelivery (deliverAnswer j e b)
+  pub answer : r ≡ packedDelivery (paperDelivery (deliverAnswer j e b))
   pub content : j′ ≡ contentOf j (form e) b
 
 -- crownhazel_entry
 pub record EntryNumber (j : List ℕ) (e : ℕ) (r : ℕ) : Type 0 where
-  pub answer : r ≡ packedEntry (entryPlaceOf j e)
+  pub answer : r ≡ packedEntry (paperPlace (entryPlaceOf j e))
 
 -- crownhazel_used
 pub record UsedNumber (j : List ℕ) (r : ℕ) : Type 0 where
-  pub answer : r ≡ packedUsage (usageOf j)
+  pub answer : r ≡ packedUsage (paperUsage (usageOf j))
 
 -- crownhazel_listed
 pub record ListedNumber (j : List ℕ) (e : ℕ) (row : List ℕ) (r : ℕ) (row′ : List ℕ) : Type 0 where
-  pub answer : r ≡ packedEntry (listedAnswer j e row)
+  pub answer : r ≡ packedEntry (paperPlace (listedAnswer j e row))
   pub content : row′ ≡ listedContent j e row
 
 -- crownhazel_length
 pub record LengthNumber (e n : ℕ) (r : ℕ) : Type 0 where
-  pub answer : r ≡ packedLength (lengthAnswer e n)
+  pub answer : r ≡ packedLength (paperFrame (lengthAnswer e n))
 
 -- crownhazel_earliest
 pub record EarliestNumber (e : ℕ) (b : List ℕ) (r : ℕ) : Type 0 where
-  pub answer : r ≡ packedBeginning (earliestAnswer e b)
+  pub answer : r ≡ packedBeginning (paperBeginning (earliestAnswer e b))

@@ -14,7 +14,7 @@ use Rattle.dates.proofs.Ordinals.{parts}
 use Rattle.framing.specs.declared.Form.{Form}
 use Rattle.grammar.specs.Statements.{Statement, recordsOf, allRecords}
 use Rattle.grammar.specs.Files.{Reads, statementsOf}
-use Rattle.grammar.specs.Parts.{nothing}
+use Rattle.grammar.specs.Parts.{noStatement}
 use Rattle.records.specs.July.{july}
 use Rattle.records.proofs.Theorems.{counts, reads, unique, part-reads}
 use Rattle.records.proofs.Zones.{opening-day}
@@ -42,7 +42,7 @@ earlier-is kept day = by (eqb kept 0) (ltb day kept) refl refl
 
 -- each old date is a day, and not 0
 abbrev Some : List Statement → Type 0
-Some ss = (j : ℕ) → j < length ss → 0 < getD ss j nothing .old-date
+Some ss = (j : ℕ) → j < length ss → 0 < getD ss j noStatement .old-date
 
 others : (s : Statement) (ss : List Statement) → Some (s ∷ ss) → Some ss
 others s ss o j h = o (suc j) (omega arith)
@@ -59,7 +59,7 @@ from-kept kept (s ∷ ss) o h =
     let b = e .before-kept h in
     omega arith
 
-from-each : (kept : ℕ) (ss : List Statement) → Some ss → (j : ℕ) → j < length ss → earliestFrom kept ss ≤ getD ss j nothing .old-date
+from-each : (kept : ℕ) (ss : List Statement) → Some ss → (j : ℕ) → j < length ss → earliestFrom kept ss ≤ getD ss j noStatement .old-date
 unfolding earliestFrom
 from-each kept [] o j h = absurd (omega arith)
 from-each kept (s ∷ ss) o zero h =
@@ -71,7 +71,7 @@ from-each kept (s ∷ ss) o (suc j) h = from-each (earlierOf kept (s .old-date))
 
 -- one of them has this old date
 abbrev pub Among : List Statement → ℕ → Type 0
-Among ss d = (j : ℕ) × ((j < length ss) × (getD ss j nothing .old-date ≡ d))
+Among ss d = (j : ℕ) × ((j < length ss) × (getD ss j noStatement .old-date ≡ d))
 
 from-one : (kept : ℕ) (ss : List Statement) → (earliestFrom kept ss ≡ kept) ⊎ Among ss (earliestFrom kept ss)
 unfolding earliestFrom
@@ -100,15 +100,15 @@ of-some (s ∷ ss) o h = from-some (earlierOf 0 (s .old-date)) ss (others s ss o
 
 module _ {f : Form} {b : List ℕ} {ss : List Statement} (r : Reads july f b ss) where
   -- their old dates are days that exist
-  pub old-day : (j : ℕ) → j < length ss → isDay (getD ss j nothing .old-date) ≡ true
+  pub old-day : (j : ℕ) → j < length ss → isDay (getD ss j noStatement .old-date) ≡ true
   unfolding allRecords recordsOf
-  old-day j h = let s = getD ss j nothing in opening-day (s .key) (s .old-date) (s .old-balance) (part-reads r j h .ok .0)
+  old-day j h = let s = getD ss j noStatement in opening-day (s .key) (s .old-date) (s .old-balance) (part-reads r j h .ok .0)
 
   old-some : Some ss
-  old-some j h = let p = parts (getD ss j nothing .old-date) (old-day j h) .low in omega arith
+  old-some j h = let p = parts (getD ss j noStatement .old-date) (old-day j h) .low in omega arith
 
   -- THE EARLIEST: at or before the old date of every statement
-  pub earliest-before : (j : ℕ) → j < length ss → earliestOf ss ≤ getD ss j nothing .old-date
+  pub earliest-before : (j : ℕ) → j < length ss → earliestOf ss ≤ getD ss j noStatement .old-date
   earliest-before = from-each 0 ss old-some
 
   -- the old date of one of them, where there is one

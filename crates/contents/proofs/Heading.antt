@@ -18,7 +18,7 @@ use Rattle.grammar.specs.Answer.{Answer, accepted, refused}
 use Rattle.grammar.specs.Record.{opening, closing}
 use Rattle.grammar.specs.Statements.{Statement, sizes, allRecords, movementsOf}
 use Rattle.grammar.specs.Files.{Reads, checkOf}
-use Rattle.grammar.specs.Parts.{sizeOf, recordsBefore, nothing}
+use Rattle.grammar.specs.Parts.{sizeOf, recordsBefore, noStatement}
 use Rattle.grammar.proofs.Parts.{drop-before}
 use Rattle.grammar.proofs.Rows.{all-cons}
 use Rattle.records.specs.July.{recordSize, july, july2004, keyIn, dateIn, amountIn, decodeRecord}
@@ -89,16 +89,16 @@ head-held s o c l m x y =
 
 -- at the place of statement j, from 0, stands its 01
 pub opening-at : {f : Form} {b : List ℕ} {ss : List Statement} → Reads july f b ss → (j : ℕ) → j < length ss
-    → let s = getD ss j nothing in HoldsAt b (recordsBefore j ss * widthOf recordSize f) (opening (s .key) (s .old-date) (s .old-balance))
+    → let s = getD ss j noStatement in HoldsAt b (recordsBefore j ss * widthOf recordSize f) (opening (s .key) (s .old-date) (s .old-balance))
 opening-at {f} {b} {ss} r j h =
-    let s = getD ss j nothing in
+    let s = getD ss j noStatement in
     let q : drop (recordsBefore j ss) (allRecords july2004 ss) ≡ allRecords july2004 (s ∷ drop (suc j) ss) =
-    drop-before july2004 j ss ∙ rw (drop-cons ss j nothing h) in
+    drop-before july2004 j ss ∙ rw (drop-cons ss j noStatement h) in
     record-there r (recordsBefore j ss) (q ∙ all-cons july2004 s (drop (suc j) ss))
 
 -- and its old date
 pub old-date-at : {f : Form} {b : List ℕ} {ss : List Statement} → Reads july f b ss → (j : ℕ) → j < length ss
-    → lookOf (recordAtOf b (recordsBefore j ss * widthOf recordSize f)) .day ≡ getD ss j nothing .old-date
+    → lookOf (recordAtOf b (recordsBefore j ss * widthOf recordSize f)) .day ≡ getD ss j noStatement .old-date
 unfolding lookOf
 old-date-at r j h = let o = opening-at r j h in rw (eq-eqb _ recordSize (o .whole)) (opened _ (o .values) .day)
 

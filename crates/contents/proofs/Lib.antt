@@ -3,4 +3,5 @@ pub mod Heading
 pub mod Moving
 pub mod Begun
 pub mod Passing
+pub mod Paper
 pub mod One

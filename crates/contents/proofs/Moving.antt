@@ -16,7 +16,7 @@ use Rattle.grammar.specs.declared.Key.{Key}
 use Rattle.grammar.specs.Record.{Posting, Rec, movement, complement, closing}
 use Rattle.grammar.specs.Statements.{Movement, Statement, sizes, allRecords}
 use Rattle.grammar.specs.Files.{Reads, statementsOf, checkOf}
-use Rattle.grammar.specs.Parts.{recordsBefore, nothing}
+use Rattle.grammar.specs.Parts.{recordsBefore, noStatement}
 use Rattle.grammar.proofs.Rows.{addsThen, movesThen}
 use Rattle.records.specs.July.{recordSize, repeats, july, july2004, postingIn, decodeRecord}
 use Rattle.fields.specs.Rows.{rowOf, noRow, rowAtOf}
@@ -267,11 +267,11 @@ module _ (f : Form) (b : List ℕ) (k : ℕ) where
     abbrev cut : List ℕ
     cut = take (x + n - x) (drop x b)
 
-    pub cut-reads : Reads july f cut (getD (statementsOf july f b) (k - 1) nothing ∷ [])
+    pub cut-reads : Reads july f cut (getD (statementsOf july f b) (k - 1) noStatement ∷ [])
     cut-reads = rw (part-cut f b k e) (part-alone f b k e)
 
     pub single-part : Single f cut
-    single-part = record { one = getD (statementsOf july f b) (k - 1) nothing; reads = cut-reads }
+    single-part = record { one = getD (statementsOf july f b) (k - 1) noStatement; reads = cut-reads }
 
     pub headed-part : {r : HeadAnswer} → ((s : Statement) → Reads july f cut (s ∷ []) → r ≡ headAmong s) → r ≡ headIn f b k
     unfolding headIn

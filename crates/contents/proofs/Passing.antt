@@ -10,7 +10,7 @@ use Rattle.framing.specs.declared.Form.{Form}
 use Rattle.framing.specs.Files.{widthOf}
 use Rattle.grammar.specs.Statements.{Statement}
 use Rattle.grammar.specs.Files.{Reads, statementsOf, checkOf}
-use Rattle.grammar.specs.Parts.{recordsBefore, nothing}
+use Rattle.grammar.specs.Parts.{recordsBefore, noStatement}
 use Rattle.records.specs.July.{recordSize, july}
 use Rattle.records.specs.declared.Look.{Look}
 use Rattle.records.specs.Looks.{lookOf}
@@ -49,13 +49,13 @@ module _ (f : Form) (b : List ℕ) where
       let g = p ss r in
       let i = g .behind in
       let h : i < length ss = one-more r (g .upto) (g .place) l in
-      let k : d ≡ earlierOf day (getD ss i nothing .old-date) = v ∙ ap (earlierOf day) (ap (λ (y : Look). y .day) u ∙ ap (λ (n : ℕ). lookOf (recordAtOf b n) .day) (g .place) ∙ old-date-at r i h) in
+      let k : d ≡ earlierOf day (getD ss i noStatement .old-date) = v ∙ ap (earlierOf day) (ap (λ (y : Look). y .day) u ∙ ap (λ (n : ℕ). lookOf (recordAtOf b n) .day) (g .place) ∙ old-date-at r i h) in
       let z : suc i ≡ i + 1 = omega arith in
       record {
         behind = i + 1;
         upto = omega arith;
         place = w ∙ ap (endAfter f b) (g .place) ∙ cursor r i h;
-        rest = rw (k, ← z) (rw (drop-cons ss i nothing h) at (g .rest));
+        rest = rw (k, ← z) (rw (drop-cons ss i noStatement h) at (g .rest));
       }
 
   pub ends : {day at : ℕ} → Passing f b day at → length b ≤ at → (ss : List Statement) → Reads july f b ss → day ≡ earliestOf ss

@@ -10,7 +10,7 @@ use Rattle.framing.specs.declared.Form.{Form}
 use Rattle.framing.specs.Files.{lineEnd}
 use Rattle.grammar.specs.Statements.{Movement, Statement}
 use Rattle.grammar.specs.Files.{Reads, statementsOf, checkOf}
-use Rattle.grammar.specs.Parts.{nothing}
+use Rattle.grammar.specs.Parts.{noStatement}
 use Rattle.records.specs.July.{recordSize, july}
 use Rattle.fields.specs.Rows.{rowOf, noRow}
 use Rattle.readers.specs.Places.{placeOf}
@@ -73,14 +73,14 @@ movementBy (At first len) s i = movementAmong (s .movements) i
 movementBy (Refused n r) s i = refusedMovement n r
 
 unfoldable pub movementIn : Form → List ℕ → (k i : ℕ) → MovementAnswer
-movementIn f b k i = movementBy (placeOf f b k) (getD (statementsOf july f b) (k - 1) nothing) i
+movementIn f b k i = movementBy (placeOf f b k) (getD (statementsOf july f b) (k - 1) noStatement) i
 
 abbrev pub complementBy : Place → Statement → (i j : ℕ) → ComplementAnswer
 complementBy (At first len) s i j = complementAmong (s .movements) i j
 complementBy (Refused n r) s i j = refusedComplement n r
 
 unfoldable pub complementIn : Form → List ℕ → (k i j : ℕ) → ComplementAnswer
-complementIn f b k i j = complementBy (placeOf f b k) (getD (statementsOf july f b) (k - 1) nothing) i j
+complementIn f b k i j = complementBy (placeOf f b k) (getD (statementsOf july f b) (k - 1) noStatement) i j
 
 -- the bytes of one statement
 pub record Single (f : Form) (b : List ℕ) : Type 0 where

@@ -16,6 +16,7 @@ use Rattle.dates.specs.declared.Date.the-variants.{Day, NoDay}
 unfoldable pub yearOf : ℕ → ℕ
 yearOf yy = pick (ltb yy 80) (2000 + yy) (1900 + yy)
 
+-- every fourth year, of the hundreds only every fourth
 abbrev pub isLeap : ℕ → Bool
 isLeap y = eqb (y % 4) 0 && (not (eqb (y % 100) 0) || eqb (y % 400) 0)
 
@@ -30,6 +31,7 @@ daysIn y m = pick (eqb m 2 && isLeap y) 29 (getD monthDays m 0)
 unfoldable pub exists : (year month day : ℕ) → Bool
 exists y m d = leb 1 d && leb d (daysIn y m)
 
+-- YYYYMMDD
 abbrev pub dayNumber : (year month day : ℕ) → ℕ
 dayNumber y m d = y * 10000 + m * 100 + d
 
@@ -37,6 +39,7 @@ dayNumber y m d = y * 10000 + m * 100 + d
 abbrev pub Before : (y m d y′ m′ d′ : ℕ) → Type 0
 Before y m d y′ m′ d′ = (y < y′) ⊎ ((y ≡ y′) × ((m < m′) ⊎ ((m ≡ m′) × (d < d′))))
 
+-- the number of a day that exists
 unfoldable pub dayOf : (year month day : ℕ) → Date
 dayOf y m d = pick (exists y m d) (Day (dayNumber y m d)) NoDay
 

@@ -1,5 +1,5 @@
 -- The worked examples that the paper marks, as one table.
-use Prim.Native.Nat.{ℕ}
+use Prim.Native.Nat.{ℕ, _-_}
 use Prim.Native.String.{String}
 use mathlib.Core.List.{List, [], _∷_}
 use lib.IntN.{ℤ, pos, negsuc}
@@ -17,7 +17,7 @@ abbrev pub value : ℕ → Answer
 value n = (0, pos n)
 
 abbrev pub minus : ℕ → Answer
-minus n = (0, negsuc n)
+minus n = (0, negsuc (n - 1))
 
 abbrev pub refused : ℕ → Answer
 refused k = (k, pos 0)
@@ -32,14 +32,14 @@ date t = (paperDate (dateOf (bytes t)) .0, pos (paperDate (dateOf (bytes t)) .1)
 abbrev pub code : String → Answer
 code t = value (numberOf (getD (bytes t) 0 0) (getD (bytes t) 1 0))
 
--- What the definitions give, and what the paper says. `minus n` is -(n + 1).
+-- What the definitions give, and what the paper says. `minus n` is -n, for n from 1 on.
 abbrev pub worked : List (Answer × Answer)
 worked =
     (amount "0000000010000{", value 100000)
-    ∷ (amount "0000000000421P", minus 4216)
+    ∷ (amount "0000000000421P", minus 4217)
     ∷ (amount "0000000000000{", value 0)
     ∷ (amount "0000000000000}", value 0)
-    ∷ (amount "9999999999999R", minus 99999999999998)
+    ∷ (amount "9999999999999R", minus 99999999999999)
     ∷ (amount "00000000000005", refused 8)
     ∷ (date "290224", value 20240229)
     ∷ (date "290225", refused 9)

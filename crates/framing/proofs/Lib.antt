@@ -1,3 +1,4 @@
 pub mod Cuts
 pub mod Framing
+pub mod Paper
 pub mod One

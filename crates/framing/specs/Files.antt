@@ -15,8 +15,13 @@ abbrev pub All : {A : Type 0} → (A → Type 0) → List A → Type 0
 All P [] = Unit
 All P (x ∷ xs) = P x × All P xs
 
+-- the line-end number
 abbrev pub lineEnd : Form → ℕ
 lineEnd f = f .«line_end»
+
+-- a file without line ends
+abbrev pub plain : Form
+plain = record { «line_end» = 0 }
 
 -- The line-end number is 0 (nothing after a record), 1 (LF after every record, the last too) or 2 (CR LF likewise).
 unfoldable pub endOf : Form → List ℕ

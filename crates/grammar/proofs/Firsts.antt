@@ -8,32 +8,32 @@ use native.Mathlib.Decide.{decLe, ℕ-discrete}
 use lib.ListN.{length, take, getD}
 use lib.Dec.{ltb, eqb, leb·suc-suc, leb·suc-zero}
 use borrow.Author.Tests.{ne-eqb, eq-eqb, lt-ltb}
-use Rattle.grammar.specs.Answer.{Rule, firstOf, ruled, Counts, Answer, refused, FirstAt, NoneAt, Verdict, first, cut, whole}
+use Rattle.grammar.specs.Answer.{Rule, firstOf, isRuled, Counts, Answer, refused, FirstAt, NoneAt, Verdict, first, cut, whole}
 use Rattle.grammar.specs.Machine.{Machine, judgeOf, scan, after}
 use Rattle.grammar.proofs.Tests.{clash, Rises}
 
 -- below the first number no rule
-below : (m : ℕ) (xs : List Rule) → Rises m xs → (j : ℕ) → j ≤ m → ruled j xs ≡ false
+below : (m : ℕ) (xs : List Rule) → Rises m xs → (j : ℕ) → j ≤ m → isRuled j xs ≡ false
 below m [] g j h = refl
 below m (x ∷ xs) g j h = go (x .applies) (eqb (x .number) j) (ne-eqb (x .number) j (omega arith)) (below (x .number) xs (g .1) j (omega arith))
   where
-    go : (t u : Bool) → u ≡ false → ruled j xs ≡ false → (t && u || ruled j xs) ≡ false
+    go : (t u : Bool) → u ≡ false → isRuled j xs ≡ false → (t && u || isRuled j xs) ≡ false
     go true u p q = rw p q
     go false u p q = q
 
 -- where the first number is 0 no number applies
-none : (m : ℕ) (xs : List Rule) → Rises m xs → firstOf xs ≡ 0 → (j : ℕ) → ruled j xs ≡ false
+none : (m : ℕ) (xs : List Rule) → Rises m xs → firstOf xs ≡ 0 → (j : ℕ) → isRuled j xs ≡ false
 none m [] g e j = refl
 none m (x ∷ xs) g e j = go (x .applies) refl (λ q. none (x .number) xs (g .1) q j)
   where
-    go : (t : Bool) → x .applies ≡ t → (firstOf xs ≡ 0 → ruled j xs ≡ false) → ruled j (x ∷ xs) ≡ false
+    go : (t : Bool) → x .applies ≡ t → (firstOf xs ≡ 0 → isRuled j xs ≡ false) → isRuled j (x ∷ xs) ≡ false
     go true p ih = let z : x .number ≡ 0 = rw p at e in absurd (omega arith)
     go false p ih = rw p (ih (rw p at e))
 
 -- the first number applies, and is the lowest that does
 pub record Lowest (k : ℕ) (xs : List Rule) : Type 0 where
-  pub here : ruled k xs ≡ true
-  pub lowest : (j : ℕ) → j < k → ruled j xs ≡ false
+  pub here : isRuled k xs ≡ true
+  pub lowest : (j : ℕ) → j < k → isRuled j xs ≡ false
 
 -- the first number is the lowest, where there is one
 low : (m : ℕ) (xs : List Rule) → Rises m xs → (firstOf xs ≡ 0 → ⊥) → Lowest (firstOf xs) xs
@@ -53,7 +53,7 @@ low m (x ∷ xs) g f = go (x .applies) refl (λ q. low (x .number) xs (g .1) q)
 module _ (M : Machine) (d : M .Record) where
   -- number k applies to record i of rs, read from the state s on
   abbrev pub appliesFrom : M .State → List (M .Record) → (k i : ℕ) → Bool
-  appliesFrom s rs k i = ltb i (length rs) && ruled k (M .rules (after M s (take i rs)) (getD rs i d))
+  appliesFrom s rs k i = ltb i (length rs) && isRuled k (M .rules (after M s (take i rs)) (getD rs i d))
 
 module _ (M : Machine) (d : M .Record) (rise : (s : M .State) (r : M .Record) → Rises 0 (M .rules s r)) (applies : (k i : ℕ) → Bool) where
   -- the answer from here on, where m records are behind to which nothing applies
@@ -75,7 +75,7 @@ module _ (M : Machine) (d : M .Record) (rise : (s : M .State) (r : M .Record) �
       go false z = cut (record { none = clear }) (ap not z) (rw z (ap (refused 14) (omega arith)))
   verdict (r ∷ rs) m s on before = go (λ o b. verdict rs (m + 1) (M .taken s r) o b) (ℕ-discrete (judgeOf M s r) 0)
     where
-      here : (k : ℕ) → applies k m ≡ ruled k (M .rules s r)
+      here : (k : ℕ) → applies k m ≡ isRuled k (M .rules s r)
       here k = let e : m ≡ m + 0 = omega arith in ap (applies k) e ∙ rw (lt-ltb 0 (suc (length rs)) (omega arith)) at (on k 0)
 
       later : (k i : ℕ) → applies k (m + 1 + i) ≡ appliesFrom M d (M .taken s r) rs k i

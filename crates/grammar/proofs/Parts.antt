@@ -13,7 +13,7 @@ use Rattle.grammar.specs.declared.Key.{Key}
 use Rattle.grammar.specs.Record.{Rec, closing, Edition}
 use Rattle.grammar.specs.Statements.{Movement, Statement, Valid, sizes, recordsOf, allRecords}
 use Rattle.grammar.specs.Files.{Coding, Lawful, pieces, canonPiece, canonical, layoutOf, Reads}
-use Rattle.grammar.specs.Parts.{sizeOf, recordsBefore, nothing, partOf}
+use Rattle.grammar.specs.Parts.{sizeOf, recordsBefore, noStatement, partOf}
 use Rattle.grammar.proofs.Rows.{addsThen, movesThen, all-cons}
 use Rattle.grammar.proofs.Seam.{piecesFor}
 use Rattle.grammar.proofs.Canonical.{canonical-flat, wide-all}
@@ -77,19 +77,19 @@ module _ (E : Edition) where
 
   -- and first among them the records of statement j, from 0
   part-records : (j : ℕ) (ss : List Statement) → j < length ss
-      → take (sizeOf (getD ss j nothing)) (drop (recordsBefore j ss) (allRecords E ss)) ≡ allRecords E (getD ss j nothing ∷ [])
+      → take (sizeOf (getD ss j noStatement)) (drop (recordsBefore j ss) (allRecords E ss)) ≡ allRecords E (getD ss j noStatement ∷ [])
   unfolding allRecords
   part-records j ss h =
-      let s = getD ss j nothing in
-      rw (drop-before j ss, drop-cons ss j nothing)
+      let s = getD ss j noStatement in
+      rw (drop-before j ss, drop-cons ss j noStatement)
       (take-at (recordsOf E s) (allRecords E (drop (suc j) ss)) (sizeOf s) (length-one s) ∙ sym (one-records E s))
 
 module _ (C : Coding) (L : Lawful C) {f : Form} {b : List ℕ} {ss : List Statement} (r : Reads C f b ss) (j : ℕ) (h : j < length ss) where
   -- the part, as the writer writes it, is the layout of its statement
-  part-layout : layoutOf C f (getD ss j nothing ∷ []) ≡ canonical C f (partOf C f b (j + 1))
+  part-layout : layoutOf C f (getD ss j noStatement ∷ []) ≡ canonical C f (partOf C f b (j + 1))
   unfolding partOf layoutOf fileOf
   part-layout =
-      let n = sizeOf (getD ss j nothing) in
+      let n = sizeOf (getD ss j noStatement) in
       let m = recordsBefore j ss in
       let w = widthOf (C .size) f in
       let rs = allRecords (C .edition) ss in
@@ -108,15 +108,15 @@ module _ (C : Coding) (L : Lawful C) {f : Form} {b : List ℕ} {ss : List Statem
       ∙ ap flat (g ∙ ap (λ l. take n (drop m l)) (reads-pieces C L r) ∙ k ∙ ap (piecesFor C f) (part-records (C .edition) j ss h)))
 
   -- the part is a file that reads as its statement alone
-  pub part-reads : Reads C f (partOf C f b (j + 1)) (getD ss j nothing ∷ [])
+  pub part-reads : Reads C f (partOf C f b (j + 1)) (getD ss j noStatement ∷ [])
   part-reads =
-      let n = sizeOf (getD ss j nothing) in
+      let n = sizeOf (getD ss j noStatement) in
       let m = recordsBefore j ss in
       let rs = allRecords (C .edition) ss in
       let p = part-records (C .edition) j ss h in
       record {
         line = r .line;
-        valid = ((rw (drop-cons ss j nothing) at (all-drop (Valid (C .edition)) j ss (r .valid))) .0, tt);
+        valid = ((rw (drop-cons ss j noStatement) at (all-drop (Valid (C .edition)) j ss (r .valid))) .0, tt);
         ok = rw (← p) (all-take (C .Ok) n (drop m rs) (all-drop (C .Ok) m rs (r .ok)));
         layout = part-layout;
         few = rw (← p) (omega (arith, length-take n (drop m rs), length-drop m rs, r .few));

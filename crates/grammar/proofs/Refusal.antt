@@ -9,7 +9,7 @@ use lib.ListN.{length, take, getD}
 use Rattle.framing.specs.declared.Form.{Form}
 use Rattle.framing.specs.Files.{widthOf, countOf, unknownEnd, uneven, tooMany}
 use Rattle.framing.proofs.Cuts.{length-chunks}
-use Rattle.grammar.specs.Answer.{ruled, Counts, Answer, Verdict}
+use Rattle.grammar.specs.Answer.{isRuled, Counts, Answer, Verdict}
 use Rattle.grammar.specs.Machine.{scan}
 use Rattle.grammar.specs.Record.{Rec}
 use Rattle.grammar.specs.Rules.{isOut, start}
@@ -42,7 +42,7 @@ module _ (C : Coding) (f : Form) where
   applies-same : (ps : List (List ℕ)) (k i : ℕ) → appliesIn C f ps k i ≡ appliesFrom (files C f) [] start ps k i
   unfolding appliesIn
   applies-same ps k i =
-      ap (λ l. ltb i (length ps) && ruled k l)
+      ap (λ l. ltb i (length ps) && isRuled k l)
       (rules-same (map (recOf C) (take i ps)) (getD ps i []) ∙ ap (λ s. fileRules C f (s .mode) (getD ps i [])) (sym (after-same C f (take i ps) start)))
 
   -- the rules 4 to 15, from the first record on

@@ -12,6 +12,7 @@ pub record Counts : Type 0 where
   pub movements : ℕ
   pub complements : ℕ
 
+-- accepted with these counts, or refused with a number and a record
 pub data Answer : Type 0 where
   accepted : Counts → Answer
   refused : (number at : ℕ) → Answer
@@ -30,9 +31,9 @@ firstOf [] = 0
 firstOf (x ∷ xs) = pick (x .applies) (x .number) (firstOf xs)
 
 -- number k is among those that apply
-abbrev pub ruled : ℕ → List Rule → Bool
-ruled k [] = false
-ruled k (x ∷ xs) = (x .applies && eqb (x .number) k) || ruled k xs
+abbrev pub isRuled : ℕ → List Rule → Bool
+isRuled k [] = false
+isRuled k (x ∷ xs) = (x .applies && eqb (x .number) k) || isRuled k xs
 
 -- The first record to which any number applies, and there the lowest. Records count from 0 here.
 pub record FirstAt (applies : (k i : ℕ) → Bool) (k i : ℕ) : Type 0 where

@@ -9,7 +9,7 @@ use Rattle.zones.specs.Choice.{pick}
 use Rattle.zones.specs.Pieces.{flat}
 use Rattle.framing.specs.declared.Form.{Form}
 use Rattle.framing.specs.Files.{All, widthOf, countOf, unknownEnd, uneven, tooMany, piecesOf, wrongEnd, unpermitted, fileOf}
-use Rattle.grammar.specs.Answer.{Rule, rule, ruled, Answer, refused, Verdict}
+use Rattle.grammar.specs.Answer.{Rule, rule, isRuled, Answer, refused, Verdict}
 use Rattle.grammar.specs.Machine.{Machine, scan}
 use Rattle.grammar.specs.Record.{Rec, Edition}
 use Rattle.grammar.specs.Rules.{Mode, outOfPlace, differs, secondMmo, misdated, unsummed, tooLong, State, taken, isOut, start}
@@ -159,7 +159,7 @@ module _ (C : Coding) where
   -- number k applies to piece i, counted from 0
   unfoldable pub appliesIn : Form → List (List ℕ) → (k i : ℕ) → Bool
   appliesIn f ps k i =
-      ltb i (length ps) && ruled k (rulesAfter f (sinceOpening (map recOf (take i ps))) (getD ps i []))
+      ltb i (length ps) && isRuled k (rulesAfter f (sinceOpening (map recOf (take i ps))) (getD ps i []))
 
   -- 1 to 3 come first, in that order, with record 0; then the first record to which any of 4 to 13 or 15 applies; 14 comes last
   pub data Ruled (f : Form) (b : List ℕ) (a : Answer) : Type 0 where

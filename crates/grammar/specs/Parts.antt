@@ -18,8 +18,8 @@ recordsBefore (suc j) [] = 0
 recordsBefore (suc j) (s ∷ ss) = sizeOf s + recordsBefore j ss
 
 -- what stands where there is no statement
-abbrev pub nothing : Statement
-nothing =
+abbrev pub noStatement : Statement
+noStatement =
     record {
       key = record { bank = []; branch = []; currency = []; decimals = 0; account = [] };
       old-date = 0;
@@ -34,4 +34,4 @@ unfoldable pub partOf : (C : Coding) → Form → List ℕ → ℕ → List ℕ
 partOf C f b k =
     let w = widthOf (C .size) f in
     let ss = statementsOf C f b in
-    take (sizeOf (getD ss (k - 1) nothing) * w) (drop (recordsBefore (k - 1) ss * w) b)
+    take (sizeOf (getD ss (k - 1) noStatement) * w) (drop (recordsBefore (k - 1) ss * w) b)

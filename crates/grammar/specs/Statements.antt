@@ -15,6 +15,7 @@ pub record Movement : Type 0 where
   pub posting : Posting
   pub complements : List (List ℕ)
 
+-- the account key, old date and balance of its 01, its movements, new date and balance of its 07
 pub record Statement : Type 0 where
   pub key : Key
   pub old-date : ℕ
@@ -34,6 +35,7 @@ sizes [] = 0
 sizes (m ∷ ms) = 1 + length (m .complements) + sizes ms
 
 module _ (E : Edition) where
+  -- how many of some texts are an MMO
   unfoldable pub mmos : List (List ℕ) → ℕ
   mmos [] = 0
   mmos (t ∷ ts) = pick (E .isMmo t) 1 0 + mmos ts
@@ -65,6 +67,7 @@ module _ (E : Edition) where
       opening (s .key) (s .old-date) (s .old-balance)
       ∷ (recordsOfMovements (s .key) (s .movements) ++ (closing (s .key) (s .new-date) (s .new-balance) ∷ []))
 
+  -- the records of some statements, one after another
   unfoldable pub allRecords : List Statement → List Rec
   allRecords [] = []
   allRecords (s ∷ ss) = recordsOf s ++ allRecords ss
@@ -81,6 +84,7 @@ unfoldable pub complementsOf : List Statement → ℕ
 complementsOf [] = 0
 complementsOf (s ∷ ss) = complementsIn (s .movements) + complementsOf ss
 
+-- The check answers the numbers of statements, movements and complements.
 abbrev pub countsOf : List Statement → Counts
 countsOf ss = record { statements = length ss; movements = movementsOf ss; complements = complementsOf ss }
 

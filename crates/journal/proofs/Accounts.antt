@@ -5,7 +5,7 @@ use mathlib.Core.List.{List, [], _∷_}
 use Prim.Native.Nat.{ℕ, _-_}
 use lib.ListN.{length}
 use Rattle.zones.specs.Choice.{pick}
-use Rattle.framing.specs.Files.{All}
+use Rattle.framing.specs.Files.{All, plain}
 use Rattle.grammar.specs.declared.Key.{Key}
 use Rattle.grammar.specs.Record.{sameKey}
 use Rattle.grammar.specs.Statements.{Statement}
@@ -14,7 +14,7 @@ use Rattle.grammar.specs.Parts.{sizeOf}
 use Rattle.grammar.proofs.Tests.{clash, sameKey-self}
 use Rattle.records.specs.July.{july}
 use Rattle.records.proofs.Theorems.{unique}
-use Rattle.bodies.specs.Bodies.{plain, bodyOf, identical}
+use Rattle.bodies.specs.Bodies.{bodyOf, identical}
 use Rattle.bodies.proofs.Single.{body-reads}
 use Rattle.bodies.proofs.Identical.{identical-bodies}
 use Rattle.journal_layout.specs.declared.Judgement.{Judgement}

@@ -12,12 +12,12 @@ use Rattle.grammar.specs.Answer as G
 use Rattle.grammar.specs.Answer.{Answer, accepted}
 use Rattle.grammar.specs.Statements.{Statement}
 use Rattle.grammar.specs.Files.{canonical, Reads, Writable, statementsOf, checkOf}
-use Rattle.grammar.specs.Parts.{nothing}
+use Rattle.grammar.specs.Parts.{noStatement}
 use Rattle.records.specs.July.{recordSize, july}
 use Rattle.records.proofs.Theorems.{reads, part-reads, check-canonical, statements-canonical}
 use Rattle.bodies.proofs.Single.{reads-writable}
 use Rattle.entries.specs.Entries.{tableSize}
-use Rattle.journal_layout.specs.Layout.{mostLines, isLength, linesOf, entriesOf, bodiesOf, layoutOf, Journal, openedOf}
+use Rattle.journal_layout.specs.Layout.{mostLines, isLength, linesOf, entriesOf, bodiesOf, journalOf, Journal, openedOf}
 use Rattle.journal_layout.proofs.Testing.{is-long}
 use Rattle.journal_layout.proofs.Exact.{journal-length, journal-sound, journal-list}
 use Rattle.journal.specs.Delivery.{delivered, refused, run, linesIn, outcomeBy, outcomeOf, contentBy, contentOf}
@@ -28,7 +28,7 @@ use Rattle.journal.proofs.Runs.{Kept, kept, ran, kept-journal}
 pub file-writable : {f : Form} {b : List ℕ} {ss : List Statement} → Reads july f b ss → All (Writable july) ss
 file-writable {f} {b} {ss} r = each ss (λ i h. reads-writable (part-reads r i h))
   where
-    each : (ts : List Statement) → ((i : ℕ) → i < length ts → Writable july (getD ts i nothing)) → All (Writable july) ts
+    each : (ts : List Statement) → ((i : ℕ) → i < length ts → Writable july (getD ts i noStatement)) → All (Writable july) ts
     each [] p = tt
     each (t ∷ ts) p = (p 0 (omega arith), each ts (λ i h. p (suc i) (omega arith)))
 
@@ -88,7 +88,7 @@ module _ {j : List ℕ} {H : List Statement} (g : Journal j H) (f : Form) (b : L
 
 -- opening leaves a journal of no statement
 pub opened : (j : List ℕ) → isLength (length j) ≡ true → Journal (openedOf j) []
-unfolding openedOf layoutOf entriesOf bodiesOf linesOf flat Rattle.journal_layout.specs.Chains.ofAccount
+unfolding openedOf journalOf entriesOf bodiesOf linesOf flat Rattle.journal_layout.specs.Chains.ofAccount
 opened j h =
     let l = is-long (length j) h in
     let a = l .least in

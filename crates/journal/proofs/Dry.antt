@@ -17,7 +17,7 @@ use Rattle.grammar.specs.Answer as G
 use Rattle.grammar.specs.Answer.{Answer, accepted}
 use Rattle.grammar.specs.Statements.{Statement}
 use Rattle.grammar.specs.Files.{Reads, Writable, statementsOf, checkOf}
-use Rattle.grammar.specs.Parts.{sizeOf, recordsBefore, nothing}
+use Rattle.grammar.specs.Parts.{sizeOf, recordsBefore, noStatement}
 use Rattle.records.specs.July.{recordSize, july}
 use Rattle.records.proofs.Theorems.{reads}
 use Rattle.records.specs.Looks.{lookOf}
@@ -32,7 +32,7 @@ use Rattle.entries.specs.Entries.{mostEntries, tableSize, lineAt}
 use Rattle.journal_layout.specs.declared.Free.{Free}
 use Rattle.journal_layout.specs.declared.Judgement.{Judgement}
 use Rattle.journal_layout.specs.Chains.{heldAmong}
-use Rattle.journal_layout.specs.Layout.{linesOf, layoutOf, Journal}
+use Rattle.journal_layout.specs.Layout.{linesOf, journalOf, Journal}
 use Rattle.journal_layout.specs.Test.{soundIn, heldOf, freeIn}
 use Rattle.journal_layout.proofs.Adding.{lines-append}
 use Rattle.journal_layout.proofs.Exact.{one-lines, journal-length, journal-held, sound-journal}
@@ -244,11 +244,11 @@ module _ (j : List ℕ) (f : Form) (b : List ℕ) where
           spans = rw (append-nil H);
         }
 
-    journal-layout : j ≡ layoutOf n H
+    journal-layout : j ≡ journalOf n H
     journal-layout =
         let l = journal-length journal in
         let z : journal .lines ≡ n = omega arith in
-        journal .layout ∙ ap (λ (m : ℕ). layoutOf m H) z
+        journal .layout ∙ ap (λ (m : ℕ). journalOf m H) z
 
     module _ {places ends : List ℕ} {count taken held at : ℕ} (d : Dry places ends count taken held at) where
       abbrev P : List Statement
@@ -294,7 +294,7 @@ module _ (j : List ℕ) (f : Form) (b : List ℕ) where
       pub verdict-there : {end entry v : ℕ} {g : Judgement} {o : List ℕ} → Turn f b S (d .i) at end → entry ≡ length H
           → g ≡ judgedAll j entry f (partsFrom count 0 places ends b) (take (end - at) (drop at b)) → o ≡ recordAtOf (take (end - at) (drop at b)) 0
           → v ≡ verdictNumber (verdictBy g (lookOf o .day) (lookOf o .amount) (entry + count) (n - taken) ((end - at) / widthOf recordSize f))
-          → v ≡ verdictNumber (verdictOf n (H ++ P) (getD S (d .i) nothing))
+          → v ≡ verdictNumber (verdictOf n (H ++ P) (getD S (d .i) noStatement))
       verdict-there {end} {entry} {v} {g} {o} x e p q y =
           let c = d .planned in
           let l = length-append H P in
@@ -304,12 +304,12 @@ module _ (j : List ℕ) (f : Form) (b : List ℕ) where
           (journal-held journal .holding) (d .reads) (rw e at p) q (omega arith) (ap (λ (m : ℕ). n - m) (d .lines)) (x .size))
 
       -- its verdict
-      module _ {end : ℕ} (g : Turn f b S (d .i) at end) {v : ℕ} (p : v ≡ verdictNumber (verdictOf n (H ++ P) (getD S (d .i) nothing))) where
+      module _ {end : ℕ} (g : Turn f b S (d .i) at end) {v : ℕ} (p : v ≡ verdictNumber (verdictOf n (H ++ P) (getD S (d .i) noStatement))) where
         abbrev i : ℕ
         i = d .i
 
         abbrev s : Statement
-        s = getD S i nothing
+        s = getD S i noStatement
 
         step : proceed (verdictOf n (H ++ P) s)
             (run n (H ++ P) (recordsBefore i S + sizeOf s) count (held + 1) (drop (suc i) S))
@@ -317,19 +317,19 @@ module _ (j : List ℕ) (f : Form) (b : List ℕ) where
             (λ k. refused k (recordsBefore i S + 1))
             ≡ run n H 0 0 0 S
         unfolding run
-        step = rw (drop-cons S i nothing (g .index)) at (d .rest)
+        step = rw (drop-cons S i noStatement (g .index)) at (d .rest)
 
         -- what is still to arrive, and where
         step-new : P ++ pick (heldAmong s (H ++ P)) (arrivals (H ++ P) (drop (suc i) S)) (s ∷ arrivals ((H ++ P) ++ (s ∷ [])) (drop (suc i) S)) ≡ arrivals H S
         unfolding arrivals
-        step-new = rw (drop-cons S i nothing (g .index)) at (d .new)
+        step-new = rw (drop-cons S i noStatement (g .index)) at (d .new)
 
         step-spans : spansFrom count 0 places ends
             ++ pick (heldAmong s (H ++ P)) (spansOf w (H ++ P) (recordsBefore i S + sizeOf s) (drop (suc i) S))
             (span (recordsBefore i S * w) (sizeOf s * w) ∷ spansOf w ((H ++ P) ++ (s ∷ [])) (recordsBefore i S + sizeOf s) (drop (suc i) S))
             ≡ spansOf w H 0 S
         unfolding spansOf
-        step-spans = rw (drop-cons S i nothing (g .index)) at (d .spans)
+        step-spans = rw (drop-cons S i noStatement (g .index)) at (d .spans)
 
         -- refused: nothing is stored
         pub refused-there : 1 < v → Planned j f b (refusedPlan v (at / widthOf recordSize f + 1))

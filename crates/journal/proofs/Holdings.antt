@@ -7,14 +7,15 @@ use native.Mathlib.Omega.{arith}
 use lib.Dec.{eqb}
 use lib.ListN.{length, getD}
 use borrow.Author.Tests.{eq-eqb, ne-eqb}
+use Rattle.framing.specs.Files.{plain}
 use Rattle.zones.specs.Choice.{pick}
 use Rattle.grammar.specs.Record.{sameKey}
 use Rattle.grammar.specs.Statements.{Statement}
 use Rattle.grammar.specs.Files.{Reads}
-use Rattle.grammar.specs.Parts.{nothing}
+use Rattle.grammar.specs.Parts.{noStatement}
 use Rattle.records.specs.July.{recordSize, july}
 use Rattle.contents.specs.Heads.{recordAtOf}
-use Rattle.bodies.specs.Bodies.{plain, bodyOf}
+use Rattle.bodies.specs.Bodies.{bodyOf}
 use Rattle.bodies.proofs.Single.{body-reads}
 use Rattle.entries.specs.Entries.{tableSize, bodyAt, entryIn}
 use Rattle.journal_layout.specs.declared.Usage.the-variants as U
@@ -78,17 +79,17 @@ module _ (j : List ℕ) (h : soundIn j ≡ true) where
   sound-held = rw h
 
   -- the body of entry e is that of statement e
-  pub sound-body : (e : ℕ) → 0 < e → e ≤ length ss → bodyIn j e ≡ bodyOf (getD ss (e - 1) nothing)
+  pub sound-body : (e : ℕ) → 0 < e → e ≤ length ss → bodyIn j e ≡ bodyOf (getD ss (e - 1) noStatement)
   unfolding bodyIn
   sound-body e p q = rw (ne-eqb e 0 (λ z. omega arith)) (there-body (journal-held journal .holding) (e - 1) (omega arith))
 
   -- and a file of exactly it
-  pub sound-reads : (e : ℕ) → 0 < e → e ≤ length ss → Reads july plain (bodyIn j e) (getD ss (e - 1) nothing ∷ [])
+  pub sound-reads : (e : ℕ) → 0 < e → e ≤ length ss → Reads july plain (bodyIn j e) (getD ss (e - 1) noStatement ∷ [])
   sound-reads e p q = rw (sound-body e p q) (body-reads (there-alone (journal-held journal .holding) (e - 1) (omega arith)))
 
   -- its account is the statement's
   pub sound-account : (x : List ℕ) (e : ℕ) → 0 < e → e ≤ length ss
-      → ofAccountIn x (bodyIn j e) ≡ pick (eqb (length x) keySize) (sameKey (getD ss (e - 1) nothing .key) (keyFrom x)) false
+      → ofAccountIn x (bodyIn j e) ≡ pick (eqb (length x) keySize) (sameKey (getD ss (e - 1) noStatement .key) (keyFrom x)) false
   unfolding ofAccountIn
   sound-account x e p q = rw (account-value x (sound-reads e p q))
 

@@ -17,7 +17,7 @@ use Rattle.grammar.specs.declared.Key.{Key}
 use Rattle.grammar.specs.Record.{sameKey}
 use Rattle.grammar.specs.Statements.{Statement}
 use Rattle.grammar.specs.Files.{Reads, Writable, statementsOf, checkOf}
-use Rattle.grammar.specs.Parts.{nothing}
+use Rattle.grammar.specs.Parts.{noStatement}
 use Rattle.records.specs.July.{recordSize, july}
 use Rattle.contents.specs.Heads.{recordAtOf}
 use Rattle.bodies.specs.Bodies.{bodyOf}
@@ -91,7 +91,7 @@ module _ (j : List ℕ) (count : ℕ) (x : List ℕ) where
         rw z at (g .rest)
 
 -- the index of the account's last held statement
-held-index : (j x : List ℕ) (e last : ℕ) (B : List Statement) → All (Writable july) B → ((i : ℕ) → i < length B → bodyAt j (e + i) ≡ bodyOf (getD B i nothing))
+held-index : (j x : List ℕ) (e last : ℕ) (B : List Statement) → All (Writable july) B → ((i : ℕ) → i < length B → bodyAt j (e + i) ≡ bodyOf (getD B i noStatement))
     → lastHeldFrom (length B) e last j x ≡ lastIndex (keyFrom x) e last B
 unfolding lastHeldFrom lastIndex
 held-index j x e last [] a p = refl

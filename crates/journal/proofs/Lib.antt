@@ -12,4 +12,5 @@ pub mod Latest
 pub mod Holdings
 pub mod Promises
 pub mod Wrong
+pub mod Paper
 pub mod One

@@ -7,7 +7,7 @@ use native.Mathlib.Omega.{arith}
 use lib.ListN.{length, getD}
 use borrow.Author.Tests.{ne-eqb, lt-ltb, le-ltb}
 use Rattle.framing.specs.declared.Form.{Form}
-use Rattle.grammar.specs.Parts.{nothing}
+use Rattle.grammar.specs.Parts.{noStatement}
 use Rattle.readers.specs.declared.Place.the-variants as P
 use Rattle.bodies.specs.Bodies.{bodyOf}
 use Rattle.journal_layout.specs.Test.{soundIn, heldOf, entryPlaceOf, entryBodyOf}
@@ -21,7 +21,7 @@ use Rattle.journal.proofs.Holdings.{sound-held, sound-body, sound-reads
 use Rattle.journal.proofs.Series.{answered, journal-summed}
 
 module _ (j : List ℕ) (h : soundIn j ≡ true) where
-  body-of-entry : (e : ℕ) → 0 < e → e ≤ length (heldOf j) → entryBodyOf j e ≡ bodyOf (getD (heldOf j) (e - 1) nothing)
+  body-of-entry : (e : ℕ) → 0 < e → e ≤ length (heldOf j) → entryBodyOf j e ≡ bodyOf (getD (heldOf j) (e - 1) noStatement)
   unfolding entryBodyOf entryPlaceOf
   body-of-entry e p q = rw (h, ne-eqb e 0 (omega arith), le-ltb (length (heldOf j)) e q)
 

@@ -16,7 +16,7 @@ use Rattle.entries.specs.Entries.{mostEntries}
 use Rattle.journal_layout.specs.declared.Judgement.{Judgement}
 use Rattle.journal_layout.specs.declared.Judgement.the-variants.{Held, First, After}
 use Rattle.journal_layout.specs.Chains.{heldAmong, lastAmong, judgementOf, followsBy, follows}
-use Rattle.journal_layout.specs.Layout.{mostLines, linesOf, layoutOf, Keepable, Journal}
+use Rattle.journal_layout.specs.Layout.{mostLines, linesOf, journalOf, Keepable, Journal}
 use Rattle.journal_layout.proofs.Chain.{Row, row-snoc, row-distinct, row-chained, row-of}
 use Rattle.journal_layout.proofs.Adding.{lines-append, all-append}
 use Rattle.journal_layout.proofs.Exact.{one-lines}
@@ -141,7 +141,7 @@ ran n hs behind stored held (s ∷ ss) {L} {x} {y} k w e =
     by (refuse m) v g i j = absurd (let z : _≡_ {A = ℕ} 0 1 = cc in omega arith)
 
 -- the layout of what can be held is a journal of it
-pub kept-journal : {n : ℕ} {ss : List Statement} → n ≤ mostLines → Kept n ss → Journal (layoutOf n ss) ss
+pub kept-journal : {n : ℕ} {ss : List Statement} → n ≤ mostLines → Kept n ss → Journal (journalOf n ss) ss
 unfolding Rattle.journal_layout.specs.Chains.ofAccount
 kept-journal {n} {ss} m k =
     record {

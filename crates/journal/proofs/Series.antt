@@ -20,7 +20,7 @@ use Rattle.records.specs.July.{july}
 use Rattle.records.proofs.Theorems.{counts, reads, unique, reads-canonical, relined-reads, relined-own}
 use Rattle.bodies.specs.Bodies.{bodyOf, identical}
 use Rattle.journal_layout.specs.Chains.{heldAmong, Chained, ofAccount}
-use Rattle.journal_layout.specs.Layout.{isLength, layoutOf, Journal, openedOf}
+use Rattle.journal_layout.specs.Layout.{isLength, journalOf, Journal, openedOf}
 use Rattle.journal.specs.declared.Delivery.the-variants.{Done}
 use Rattle.journal.specs.Delivery.{Outcome, delivered, refused, run, linesIn, outcomeOf, contentOf}
 use Rattle.journal.specs.Answers.{answerOf, Delivers}
@@ -147,7 +147,7 @@ wholly-held {j} {L} {ss} d g c r h =
     let q : statementsOf july g c ≡ ss = unique (reads g c a) r in
     let o : outcomeOf j g c ≡ delivered L 0 (length ss) =
     outcome-by d g c ∙ rw (a, q) (run-held (linesIn j) L 0 0 0 ss h ∙ ap (delivered L 0) (zero-add (length ss))) in
-    let l : layoutOf (linesIn j) L ≡ j = rw (lines-are d) (sym (d .layout)) in
+    let l : journalOf (linesIn j) L ≡ j = rw (lines-are d) (sym (d .layout)) in
     rw (o, l)
 
 -- ---- a series in two

@@ -10,7 +10,7 @@ use Rattle.framing.specs.declared.Form.{Form}
 use Rattle.framing.specs.Files.{lineEnd, widthOf}
 use Rattle.grammar.specs.Statements.{Statement, allRecords}
 use Rattle.grammar.specs.Files.{Reads}
-use Rattle.grammar.specs.Parts.{sizeOf, recordsBefore, nothing}
+use Rattle.grammar.specs.Parts.{sizeOf, recordsBefore, noStatement}
 use Rattle.grammar.proofs.Exact.{reads-length}
 use Rattle.records.specs.July.{recordSize, mostInFile, july, july2004}
 use Rattle.records.proofs.Lawful.{july-lawful}
@@ -36,9 +36,9 @@ pub record Turn (f : Form) (b : List ℕ) (ss : List Statement) (i at end : ℕ)
   pub next : end ≡ recordsBefore (i + 1) ss * widthOf recordSize f
   pub rises : at < end
   pub within : end ≤ length b
-  pub reads : Reads july f (take (end - at) (drop at b)) (getD ss i nothing ∷ [])
-  pub len : end - at ≡ sizeOf (getD ss i nothing) * widthOf recordSize f
-  pub size : (end - at) / widthOf recordSize f ≡ sizeOf (getD ss i nothing)
+  pub reads : Reads july f (take (end - at) (drop at b)) (getD ss i noStatement ∷ [])
+  pub len : end - at ≡ sizeOf (getD ss i noStatement) * widthOf recordSize f
+  pub size : (end - at) / widthOf recordSize f ≡ sizeOf (getD ss i noStatement)
   pub behind : at / widthOf recordSize f ≡ recordsBefore i ss
 
 module _ {f : Form} {b : List ℕ} {ss : List Statement} (r : Reads july f b ss) where
@@ -46,7 +46,7 @@ module _ {f : Form} {b : List ℕ} {ss : List Statement} (r : Reads july f b ss)
   turn {i} {at} {end} u p l e =
       let w = widthOf recordSize f in
       let m = recordsBefore i ss in
-      let n = sizeOf (getD ss i nothing) in
+      let n = sizeOf (getD ss i noStatement) in
       let h : i < length ss = one-more r u p l in
       let c : end ≡ recordsBefore (i + 1) ss * w = e ∙ ap (endAfter f b) p ∙ cursor r i h in
       let d : recordsBefore (i + 1) ss * w ≡ m * w + n * w = rw (before-next i ss h) (add-mul m n w) in

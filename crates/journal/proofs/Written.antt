@@ -14,7 +14,7 @@ use Rattle.grammar.specs.Parts.{sizeOf}
 use Rattle.records.specs.July.{recordSize, july}
 use Rattle.bodies.specs.Bodies.{bodyOf}
 use Rattle.entries.specs.Entries.{mostEntries, entrySize, tableSize, lineAt}
-use Rattle.journal_layout.specs.Layout.{linesOf, entryOf, entriesOf, bodiesOf, layoutOf}
+use Rattle.journal_layout.specs.Layout.{linesOf, entryOf, entriesOf, bodiesOf, journalOf}
 use Rattle.journal_layout.proofs.Holding.{length-entry-of}
 use Rattle.journal_layout.proofs.Adding.{lines-append, entries-append, bodies-append, length-entries, length-bodies, all-append}
 use Rattle.journal_layout.proofs.Exact.{one-lines}
@@ -63,8 +63,8 @@ module _ (n : ℕ) (H : List Statement) (s : Statement) (a : All (Writable july)
       drop-blanks (recordSize * sizeOf s) (recordSize * (n - k)) ∙ ap (λ (m : ℕ). replicate m 32) z
 
   -- the entry
-  entry-written : entryWritten e k s (layoutOf n H) ≡ (E ++ (entryOf k s ++ X′)) ++ (B ++ Z)
-  unfolding layoutOf
+  entry-written : entryWritten e k s (journalOf n H) ≡ (E ++ (entryOf k s ++ X′)) ++ (B ++ Z)
+  unfolding journalOf
   entry-written =
       let l = length-entries 0 H a in
       let b = length-replicate {A = ℕ} (entrySize * (mostEntries - e)) 32 in
@@ -99,8 +99,8 @@ module _ (n : ℕ) (H : List Statement) (s : Statement) (a : All (Writable july)
       ∙ fewer-lines in
       ap₂ (λ x y. x ++ (bodyOf s ++ y)) t d ∙ append-assoc T B (bodyOf s ++ Z′)
 
-  pub layout-written : written e k s (layoutOf n H) ≡ layoutOf n (H ++ (s ∷ []))
-  unfolding written layoutOf entriesOf bodiesOf linesOf flat
+  pub layout-written : written e k s (journalOf n H) ≡ journalOf n (H ++ (s ∷ []))
+  unfolding written journalOf entriesOf bodiesOf linesOf flat
   layout-written =
       let x : entriesOf 0 (H ++ (s ∷ [])) ≡ E ++ entryOf k s = entries-append 0 H (s ∷ []) ∙ rw (zero-add k, append-nil (entryOf k s)) in
       let y : bodiesOf (H ++ (s ∷ [])) ≡ B ++ bodyOf s = bodies-append H (s ∷ []) ∙ ap (λ b. B ++ b) (append-nil (bodyOf s)) in
@@ -111,7 +111,7 @@ module _ (n : ℕ) (H : List Statement) (s : Statement) (a : All (Writable july)
 
 -- all of them, one after another
 pub layout-all : (n : ℕ) (H P : List Statement) → All (Writable july) H → All (Writable july) P → (size : ℕ) → size ≡ tableSize + recordSize * n
-    → Roomy (length H) (linesOf H) size P → writtenAll (length H) (linesOf H) P (layoutOf n H) ≡ layoutOf n (H ++ P)
+    → Roomy (length H) (linesOf H) size P → writtenAll (length H) (linesOf H) P (journalOf n H) ≡ journalOf n (H ++ P)
 unfolding writtenAll
 layout-all n H [] a p size z r = rw (append-nil H)
 layout-all n H (s ∷ P) a p size z r =

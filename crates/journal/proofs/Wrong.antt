@@ -20,7 +20,7 @@ use Rattle.records.proofs.Small.{form, nil-crlf, two, lone, february, march, ni
 use Rattle.bodies.specs.Bodies.{identical}
 use Rattle.entries.specs.Entries.{tableSize, lineAt}
 use Rattle.journal_layout.specs.Chains.{heldAmong, lastAmong, judgementOf, Chained, ofAccount}
-use Rattle.journal_layout.specs.Layout.{isLength, linesOf, layoutOf, Journal, openedOf}
+use Rattle.journal_layout.specs.Layout.{isLength, linesOf, journalOf, Journal, openedOf}
 use Rattle.journal_layout.proofs.Exact.{sound-unique}
 use Rattle.journal.specs.declared.Delivery.the-variants.{Done, Refused}
 use Rattle.journal.specs.Delivery.{verdictOf, delivered, run, linesIn, outcomeOf, contentOf}
@@ -29,6 +29,7 @@ use Rattle.journal.specs.Arrivals.{arrivals}
 use Rattle.journal.specs.Series.{deliver, Deliver, after, accepted, Demand3}
 use Rattle.journal.proofs.Delivered.{file-writable, outcome-by, opened}
 use Rattle.journal.proofs.Accounts.{identical-equal}
+use Rattle.journal.proofs.Paper.{delivers}
 
 -- a journal with room for four records, before it is opened
 unfoldable pub room : List ℕ
@@ -58,16 +59,16 @@ two-differ = by (identical february march) refl
     by false e = e
 
 -- by the rules both are stored
-pub right-two : Delivers (openedOf room) (form 1) two (Done 2 0) (layoutOf 4 (february ∷ march ∷ []))
+pub right-two : Delivers (openedOf room) (form 1) two (Done 2 0) (journalOf 4 (february ∷ march ∷ []))
 unfolding contentOf run verdictOf judgementOf heldAmong lastAmong linesOf sizes sameKey sameBytes
 right-two =
     let n : linesIn (openedOf room) ≡ 4 = ap (λ (k : ℕ). (k - tableSize) / recordSize) opened-long in
     let o : outcomeOf (openedOf room) (form 1) two ≡ delivered (february ∷ march ∷ []) 2 0 =
     outcome-by (opened room room-right) (form 1) two ∙ rw (two-accepted, two-hold, n, two-differ) in
-    record { answer = rw o; content = rw (o, n) }
+    delivers (rw o) (rw (o, n))
 
 -- a journal of the first alone
-february-alone : Journal (layoutOf 4 (february ∷ [])) (february ∷ [])
+february-alone : Journal (journalOf 4 (february ∷ [])) (february ∷ [])
 unfolding linesOf sizes ofAccount
 february-alone =
     record {
@@ -131,7 +132,7 @@ module _ {O : List ℕ → List ℕ} {D : Deliver} (d : Demand3 O D) where
   does-nothing s h e = not-unchanged room room-right (form 1) nil (ap (λ a. a .answer) e) nil-holds (ap (λ a. a .journal) e)
 
   -- one that stores only the first of two statements
-  pub only-the-first : (s h : ℕ) → D (O room) (form 1) two ≡ record { answer = Done s h; journal = layoutOf 4 (february ∷ []) } → ⊥
+  pub only-the-first : (s h : ℕ) → D (O room) (form 1) two ≡ record { answer = Done s h; journal = journalOf 4 (february ∷ []) } → ⊥
   only-the-first s h e =
       not-the-first room room-right (form 1) two (ap (λ a. a .answer) e) two-hold two-differ (rw e february-alone)
 

@@ -3,6 +3,8 @@ use mathlib.Core.Path.{_≡_}
 use mathlib.Core.Bool.{Bool}
 use mathlib.Core.List.{List}
 use Prim.Native.Nat.{ℕ}
+use lib.Dec.{eqb}
+use Rattle.zones.specs.Choice.{pick}
 use Rattle.framing.specs.declared.Form.{Form}
 use Rattle.journal.specs.Delivery.{Outcome, delivered, refused, outcomeOf, contentOf}
 use Rattle.journal.specs.Newest.{newestOf, newestPart}
@@ -55,8 +57,18 @@ abbrev pub answerOf : Outcome → Delivery
 answerOf (delivered ss s h) = Done s h
 answerOf (refused n r) = Refused n r
 
--- deliver
+-- and as the paper gives it
+abbrev pub paperOutcome : Outcome → PaperDelivery
+paperOutcome (delivered ss s h) = record { number = 0; at = 0; stored = s; held = h }
+paperOutcome (refused n r) = record { number = n; at = r; stored = 0; held = 0 }
+
+-- the code's answer that has a record: a refusal where there is a number
+abbrev pub deliveryBy : PaperDelivery → Delivery
+deliveryBy p = pick (eqb (p .number) 0) (Done (p .stored) (p .held)) (Refused (p .number) (p .at))
+
+-- deliver: the paper's record is that of the outcome, and so is the case
 pub record Delivers (j : List ℕ) (f : Form) (b : List ℕ) (r : Delivery) (j′ : List ℕ) : Type 0 where
+  pub paper : paperDelivery r ≡ paperOutcome (outcomeOf j f b)
   pub answer : r ≡ answerOf (outcomeOf j f b)
   pub content : j′ ≡ contentOf j f b
 

@@ -16,7 +16,7 @@ use Rattle.entries.specs.Entries.{mostEntries, tableSize}
 use Rattle.journal_layout.specs.declared.Judgement.{Judgement}
 use Rattle.journal_layout.specs.declared.Judgement.the-variants.{Held, First, After}
 use Rattle.journal_layout.specs.Chains.{judgementOf, followsBy}
-use Rattle.journal_layout.specs.Layout.{linesOf, layoutOf}
+use Rattle.journal_layout.specs.Layout.{linesOf, journalOf}
 use Rattle.journal_layout.specs.Test.{soundIn, heldOf}
 
 -- what becomes of a statement
@@ -47,6 +47,7 @@ pub data Outcome : Type 0 where
   delivered : (list : List Statement) → (stored held : ℕ) → Outcome
   refused : (number at : ℕ) → Outcome
 
+-- one of three, by a verdict
 abbrev pub proceed : {A : Type 0} → Verdict → (held stored : A) → (ℕ → A) → A
 proceed hold a b c = a
 proceed store a b c = b
@@ -77,7 +78,7 @@ outcomeOf j f b =
 
 -- the journal's bytes after it: any refusal leaves the whole journal unchanged
 abbrev pub contentBy : List ℕ → Outcome → List ℕ
-contentBy j (delivered ss stored held) = layoutOf (linesIn j) ss
+contentBy j (delivered ss stored held) = journalOf (linesIn j) ss
 contentBy j (refused n r) = j
 
 unfoldable pub contentOf : List ℕ → Form → List ℕ → List ℕ

@@ -12,7 +12,7 @@ use Rattle.grammar.specs.declared.Key.{Key}
 use Rattle.grammar.specs.Record.{sameKey}
 use Rattle.grammar.specs.Statements.{Statement}
 use Rattle.grammar.specs.Files.{statementsOf}
-use Rattle.grammar.specs.Parts.{sizeOf, recordsBefore, nothing}
+use Rattle.grammar.specs.Parts.{sizeOf, recordsBefore, noStatement}
 use Rattle.records.specs.July.{recordSize, july, keyIn}
 use Rattle.contents.specs.Heads.{recordAtOf}
 use Rattle.entries.specs.Entries.{lineAt, bodyAt}
@@ -26,6 +26,7 @@ use Rattle.journal.specs.Arrivals.{span, arrivals, spansOf, lastIndex}
 abbrev pub keySize : ℕ
 keySize = 25
 
+-- the account that they name
 abbrev pub keyFrom : List ℕ → Key
 keyFrom x =
     record {
@@ -44,13 +45,14 @@ newestAmong f k held sent =
     let e = lastIndex k 0 0 held in
     let x = getD (spansOf w held 0 sent) (p - 1) (span 0 0) in
     pick (ltb 0 p) (InFile (x .first) (x .len) (lineEnd f))
-    (pick (ltb 0 e) (InJournal (lineAt (recordsBefore (e - 1) held)) (recordSize * sizeOf (getD held (e - 1) nothing))) (Refused 25 0))
+    (pick (ltb 0 e) (InJournal (lineAt (recordsBefore (e - 1) held)) (recordSize * sizeOf (getD held (e - 1) noStatement))) (Refused 25 0))
 
 -- the delivery's refusals come first; no account has a key of another length
 abbrev pub newestBy : Outcome → Found → Found
 newestBy (delivered ss s h) x = x
 newestBy (refused n r) x = Refused n r
 
+-- THE NEWEST STATEMENT of the account that the bytes x name
 unfoldable pub newestOf : List ℕ → Form → List ℕ → List ℕ → Found
 newestOf j f b x =
     newestBy (outcomeOf j f b)

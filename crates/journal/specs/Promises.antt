@@ -7,15 +7,15 @@ use lib.Dec.{eqb}
 use lib.ListN.{length, getD}
 use Rattle.zones.specs.Choice.{pick}
 use Rattle.framing.specs.declared.Form.{Form}
-use Rattle.framing.specs.Files.{All}
+use Rattle.framing.specs.Files.{All, plain}
 use Rattle.grammar.specs.declared.Key.{Key}
 use Rattle.grammar.specs.Record.{sameKey}
 use Rattle.grammar.specs.Statements.{Statement}
 use Rattle.grammar.specs.Files.{Reads, Writable, statementsOf}
-use Rattle.grammar.specs.Parts.{nothing}
+use Rattle.grammar.specs.Parts.{noStatement}
 use Rattle.records.specs.July.{july}
 use Rattle.readers.specs.declared.Place.the-variants as P
-use Rattle.bodies.specs.Bodies.{plain, bodyOf}
+use Rattle.bodies.specs.Bodies.{bodyOf}
 use Rattle.entries.specs.Entries.{mostEntries}
 use Rattle.journal_layout.specs.Chains.{Chained, ofAccount, Distinct}
 use Rattle.journal_layout.specs.Layout.{mostLines, linesOf}
@@ -39,14 +39,14 @@ pub record Promise (j : List ℕ) (ss : List Statement) : Type 0 where
   pub chained : (k : Key) → Chained (ofAccount k ss)
   pub summed : (k : Key) → Summed (ofAccount k ss)
   -- the body of entry e, from 1, is that of statement e; there is no other
-  pub entry : (e : ℕ) → 0 < e → e ≤ length ss → entryBodyOf j e ≡ bodyOf (getD ss (e - 1) nothing)
+  pub entry : (e : ℕ) → 0 < e → e ≤ length ss → entryBodyOf j e ≡ bodyOf (getD ss (e - 1) noStatement)
   pub no-entry : (e : ℕ) → length ss < e → entryPlaceOf j e ≡ P.Refused 25 0
   -- after one test: how many there are, the body of entry e, what it reads as, whose it is, and that there is no other
   pub held : holdingOf j ≡ Statements (length ss)
-  pub body : (e : ℕ) → 0 < e → e ≤ length ss → bodyIn j e ≡ bodyOf (getD ss (e - 1) nothing)
-  pub reads : (e : ℕ) → 0 < e → e ≤ length ss → Reads july plain (bodyIn j e) (getD ss (e - 1) nothing ∷ [])
+  pub body : (e : ℕ) → 0 < e → e ≤ length ss → bodyIn j e ≡ bodyOf (getD ss (e - 1) noStatement)
+  pub reads : (e : ℕ) → 0 < e → e ≤ length ss → Reads july plain (bodyIn j e) (getD ss (e - 1) noStatement ∷ [])
   pub account : (x : List ℕ) (e : ℕ) → 0 < e → e ≤ length ss
-      → ofAccountIn x (bodyIn j e) ≡ pick (eqb (length x) keySize) (sameKey (getD ss (e - 1) nothing .key) (keyFrom x)) false
+      → ofAccountIn x (bodyIn j e) ≡ pick (eqb (length x) keySize) (sameKey (getD ss (e - 1) noStatement .key) (keyFrom x)) false
   pub no-body : (e : ℕ) → length ss < e → bodyIn j e ≡ []
 
 -- a delivery without a refusal adds the statements that are new, in order of first arrival; a refused one changes nothing

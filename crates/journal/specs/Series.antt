@@ -16,6 +16,7 @@ use Rattle.journal.specs.declared.Delivery.{Delivery}
 use Rattle.journal.specs.declared.Delivery.the-variants.{Done, Refused}
 use Rattle.journal.specs.Arrivals.{arrivals, Summed}
 
+-- what happens to a journal: a file is delivered, of any form and with any bytes
 pub data Event : Type 0 where
   deliver : (form : Form) (file : List ℕ) → Event
 

@@ -13,7 +13,7 @@ use Rattle.zones.specs.Copy.{sameBytes}
 use Rattle.zones.specs.Pieces.{flat}
 use Rattle.zones.proofs.Copies.{same-equal}
 use Rattle.framing.specs.declared.Form.{Form}
-use Rattle.framing.specs.Files.{All, widthOf}
+use Rattle.framing.specs.Files.{All, widthOf, plain}
 use Rattle.grammar.specs.Statements.{Statement}
 use Rattle.grammar.specs.Files.{Reads, Writable}
 use Rattle.grammar.specs.Parts.{sizeOf}
@@ -22,7 +22,7 @@ use Rattle.records.specs.July.{recordSize, july}
 use Rattle.records.specs.Looks.{lookOf}
 use Rattle.contents.specs.Heads.{recordAtOf}
 use Rattle.contents.proofs.Heading.{length-part}
-use Rattle.bodies.specs.Bodies.{plain, kept, bodyOf, openingText, closingText, closingIn, single, statementOf}
+use Rattle.bodies.specs.Bodies.{kept, bodyOf, openingText, closingText, closingIn, single, statementOf}
 use Rattle.bodies.proofs.Single.{single-reads, single-body, reads-writable}
 use Rattle.bodies.proofs.Ends.{opening-written, opening-there, opening-whole, closing-written, closing-whole}
 use Rattle.entries.specs.Entries.{mostEntries, entrySize, tableSize, lineAt, entryPut, entryBytes, linesFrom}

@@ -73,11 +73,11 @@ account-append k (a ∷ A) B = by (sameKey (a .key) k) (account-append k A B)
     by false e = e
 
 -- new date and new balance of the last of a row
-abbrev lastOf : Judgement → List Statement → Judgement
+abbrev pub lastOf : Judgement → List Statement → Judgement
 lastOf last [] = last
 lastOf last (s ∷ ss) = lastOf (After (s .new-date) (s .new-balance)) ss
 
-last-account : (k : Key) (last : Judgement) (A : List Statement) → lastAmong k last A ≡ lastOf last (ofAccount k A)
+pub last-account : (k : Key) (last : Judgement) (A : List Statement) → lastAmong k last A ≡ lastOf last (ofAccount k A)
 unfolding lastAmong ofAccount
 last-account k last [] = refl
 last-account k last (a ∷ A) = by (sameKey (a .key) k) (λ l. last-account k l A)

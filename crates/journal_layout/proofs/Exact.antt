@@ -10,6 +10,7 @@ use lib.Dec.{eqb, leb}
 use lib.ListN.{length, take, drop, getD, replicate, length-append, length-drop, length-replicate, take-append-drop}
 use lib.Seq.{take-add, take-at, drop-at, drop-drop, take-take, take-nil, length-take-le, getD-take, getD-drop}
 use borrow.Author.Tests.{eq-eqb, le-leb, lt-leb, leb-true}
+use Rattle.framing.specs.Files.{plain}
 use Rattle.zones.specs.Choice.{pick}
 use Rattle.zones.specs.Class.{blank, inClass, all}
 use Rattle.zones.specs.Number.{valueOf}
@@ -20,13 +21,13 @@ use Rattle.zones.proofs.Every.{every-at, in-range, blanks-are, are-blanks}
 use Rattle.layouts.specs.Zone.{part}
 use Rattle.grammar.specs.Statements.{Statement}
 use Rattle.grammar.specs.Files.{pieces, Reads, Writable}
-use Rattle.grammar.specs.Parts.{sizeOf, recordsBefore, nothing}
+use Rattle.grammar.specs.Parts.{sizeOf, recordsBefore, noStatement}
 use Rattle.records.specs.July.{recordSize, july, noDebitZero}
-use Rattle.bodies.specs.Bodies.{plain, bodyOf, single, statementOf}
+use Rattle.bodies.specs.Bodies.{bodyOf, single, statementOf}
 use Rattle.bodies.proofs.Single.{body-reads, body-own, body-single, reads-statement}
 use Rattle.entries.specs.Entries.{mostEntries, entrySize, tableSize, lineAt, noEntry, fieldsOf, entryBytes, entryIn, linesFrom, bodyAt}
 use Rattle.journal_layout.specs.Chains.{ofAccount}
-use Rattle.journal_layout.specs.Layout.{mostLines, isLength, linesOf, entryOf, entriesOf, bodiesOf, layoutOf, Journal}
+use Rattle.journal_layout.specs.Layout.{mostLines, isLength, linesOf, entryOf, entriesOf, bodiesOf, journalOf, Journal}
 use Rattle.journal_layout.specs.Test.{fitsIn, restBlank, walkIn, soundIn, readFrom, heldOf}
 use Rattle.journal_layout.proofs.Testing.{Long, is-long}
 use Rattle.journal_layout.proofs.Chain.{Row, row-snoc, row-distinct, row-chained, row-of}
@@ -133,7 +134,7 @@ module _ {j : List ℕ} {ss : List Statement} (l : Long (length j)) (h : Held j 
       ∙ ap₂ _++_ (h .holding .bodies) (drop-drop (recordSize * k) tableSize j ∙ b ∙ ap (λ (m : ℕ). replicate m 32) n)
 
   pub held-journal : Journal j ss
-  unfolding layoutOf ofAccount
+  unfolding journalOf ofAccount
   held-journal =
       let m = l .most in
       let o = h .holding .room in
@@ -169,15 +170,15 @@ module _ {j : List ℕ} {ss : List Statement} (g : Journal j ss) where
       omega (arith, length-append (bodiesOf ss) (replicate (recordSize * (g .lines - linesOf ss)) 32), length-bodies ss (g .kept .alone), length-replicate {A = ℕ} (recordSize * (g .lines - linesOf ss)) 32)
 
   pub journal-length : length j ≡ tableSize + recordSize * g .lines
-  unfolding layoutOf
+  unfolding journalOf
   journal-length = ap length (g .layout) ∙ length-append entriesPart linesPart ∙ ap₂ _+_ table-length lines-length
 
   take-table : take tableSize j ≡ entriesPart
-  unfolding layoutOf
+  unfolding journalOf
   take-table = ap (take tableSize) (g .layout) ∙ take-at entriesPart linesPart tableSize table-length
 
   drop-table : drop tableSize j ≡ linesPart
-  unfolding layoutOf
+  unfolding journalOf
   drop-table = ap (drop tableSize) (g .layout) ∙ drop-at entriesPart linesPart tableSize table-length
 
   pub journal-long : isLength (length j) ≡ true
@@ -255,7 +256,7 @@ unused-there j e k i r g h l = rw (lt-leb mostEntries i h) (by (eqb (length (ent
     by false = refl
 
 -- the statement behind those of H
-member : (H : List Statement) (t : Statement) (B : List Statement) → getD (H ++ (t ∷ B)) (length H) nothing ≡ t
+member : (H : List Statement) (t : Statement) (B : List Statement) → getD (H ++ (t ∷ B)) (length H) noStatement ≡ t
 member [] t B = refl
 member (h ∷ H) t B = member H t B
 

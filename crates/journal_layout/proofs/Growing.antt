@@ -8,7 +8,7 @@ use lib.ListN.{length, replicate, replicate-append-replicate}
 use Rattle.grammar.specs.Statements.{Statement}
 use Rattle.records.specs.July.{recordSize}
 use Rattle.entries.specs.Entries.{mostEntries, entrySize}
-use Rattle.journal_layout.specs.Layout.{mostLines, isLength, linesOf, entriesOf, bodiesOf, layoutOf, Journal}
+use Rattle.journal_layout.specs.Layout.{mostLines, isLength, linesOf, entriesOf, bodiesOf, journalOf, Journal}
 use Rattle.journal_layout.specs.Test.{soundIn, heldOf}
 use Rattle.journal_layout.proofs.Testing.{is-long}
 use Rattle.journal_layout.proofs.Exact.{journal-length, journal-sound, journal-list, sound-journal}
@@ -23,8 +23,8 @@ more-blanks x y k i =
     append-assoc x (y ++ replicate k 32) (replicate i 32)
     ∙ ap (λ l. x ++ l) (append-assoc y (replicate k 32) (replicate i 32) ∙ ap (λ l. y ++ l) (replicate-append-replicate k i 32))
 
-more-lines : (n m : ℕ) (ss : List Statement) → linesOf ss ≤ n → layoutOf n ss ++ blankLines m ≡ layoutOf (n + m) ss
-unfolding layoutOf
+more-lines : (n m : ℕ) (ss : List Statement) → linesOf ss ≤ n → journalOf n ss ++ blankLines m ≡ journalOf (n + m) ss
+unfolding journalOf
 more-lines n m ss r =
     let z : recordSize * (n + m - linesOf ss) ≡ recordSize * (n - linesOf ss) + recordSize * m = omega arith in
     rw z

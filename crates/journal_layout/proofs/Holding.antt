@@ -11,16 +11,16 @@ use borrow.Author.Tests.{eq-eqb, le-leb, lt-leb}
 use Rattle.zones.specs.Choice.{pick}
 use Rattle.zones.specs.Pieces.{flat}
 use Rattle.framing.specs.declared.Form.{Form}
-use Rattle.framing.specs.Files.{All}
+use Rattle.framing.specs.Files.{All, plain}
 use Rattle.grammar.specs.Record.{sameKey}
 use Rattle.grammar.specs.Statements.{Statement}
 use Rattle.grammar.specs.Files.{Reads, Writable}
-use Rattle.grammar.specs.Parts.{sizeOf, recordsBefore, nothing}
+use Rattle.grammar.specs.Parts.{sizeOf, recordsBefore, noStatement}
 use Rattle.records.specs.July.{recordSize, july}
 use Rattle.records.specs.Looks.{lookOf}
 use Rattle.records.specs.Tests.{sameKeyIn}
 use Rattle.contents.specs.Heads.{recordAtOf}
-use Rattle.bodies.specs.Bodies.{plain, bodyOf, openingText, closingText, sameRecords, closingIn}
+use Rattle.bodies.specs.Bodies.{bodyOf, openingText, closingText, sameRecords, closingIn}
 use Rattle.bodies.proofs.Single.{body-reads, length-body, size-most}
 use Rattle.bodies.proofs.Ends.{length-kept, opening-written, opening-there, opening-whole, closing-written, closing-there, closing-whole}
 use Rattle.bodies.proofs.Identical.{same-identical}
@@ -73,19 +73,19 @@ module _ {s : Statement} (w : Writable july s) where
 -- ---- some statements
 
 -- those before one, and this one, take no more lines than all
-pub before-lines : (i : ℕ) (H : List Statement) → i < length H → recordsBefore i H + sizeOf (getD H i nothing) ≤ linesOf H
+pub before-lines : (i : ℕ) (H : List Statement) → i < length H → recordsBefore i H + sizeOf (getD H i noStatement) ≤ linesOf H
 unfolding recordsBefore linesOf
 before-lines i [] h = absurd (not-suc-le-zero h)
 before-lines zero (s ∷ H) h = omega arith
 before-lines (suc i) (s ∷ H) h = let p = before-lines i H (le-of-suc-le-suc h) in omega arith
 
-alone-at : (i : ℕ) (H : List Statement) → All (Writable july) H → i < length H → Writable july (getD H i nothing)
+alone-at : (i : ℕ) (H : List Statement) → All (Writable july) H → i < length H → Writable july (getD H i noStatement)
 alone-at i [] a h = absurd (not-suc-le-zero h)
 alone-at zero (s ∷ H) a h = a .0
 alone-at (suc i) (s ∷ H) a h = alone-at i H (a .1) (le-of-suc-le-suc h)
 
 entries-at : (k i : ℕ) (H : List Statement) → All (Writable july) H → i < length H
-    → take entrySize (drop (entrySize * i) (entriesOf k H)) ≡ entryOf (k + recordsBefore i H) (getD H i nothing)
+    → take entrySize (drop (entrySize * i) (entriesOf k H)) ≡ entryOf (k + recordsBefore i H) (getD H i noStatement)
 unfolding entriesOf recordsBefore
 entries-at k i [] a h = absurd (not-suc-le-zero h)
 entries-at k zero (s ∷ H) a h =
@@ -94,10 +94,10 @@ entries-at k (suc i) (s ∷ H) a h =
     let z : entrySize * suc i ≡ entrySize + entrySize * i = omega arith in
     let y : k + sizeOf s + recordsBefore i H ≡ k + (sizeOf s + recordsBefore i H) = omega arith in
     rw (z, ← drop-drop (entrySize * i) entrySize (entryOf k s ++ entriesOf (k + sizeOf s) H), drop-at (entryOf k s) (entriesOf (k + sizeOf s) H) entrySize (length-entry-of (a .0) k))
-    (entries-at (k + sizeOf s) i H (a .1) (le-of-suc-le-suc h) ∙ ap (λ (n : ℕ). entryOf n (getD H i nothing)) y)
+    (entries-at (k + sizeOf s) i H (a .1) (le-of-suc-le-suc h) ∙ ap (λ (n : ℕ). entryOf n (getD H i noStatement)) y)
 
 bodies-at : (i : ℕ) (H : List Statement) → All (Writable july) H → i < length H
-    → take (recordSize * sizeOf (getD H i nothing)) (drop (recordSize * recordsBefore i H) (bodiesOf H)) ≡ bodyOf (getD H i nothing)
+    → take (recordSize * sizeOf (getD H i noStatement)) (drop (recordSize * recordsBefore i H) (bodiesOf H)) ≡ bodyOf (getD H i noStatement)
 unfolding bodiesOf recordsBefore flat
 bodies-at i [] a h = absurd (not-suc-le-zero h)
 bodies-at zero (s ∷ H) a h = take-at (bodyOf s) (bodiesOf H) (recordSize * sizeOf s) (length-body-of (a .0))
@@ -110,7 +110,7 @@ bodies-at (suc i) (s ∷ H) a h =
 
 module _ {j : List ℕ} {H : List Statement} (g : Holding j H) (i : ℕ) (h : i < length H) where
   abbrev s : Statement
-  s = getD H i nothing
+  s = getD H i noStatement
 
   pub there-alone : Writable july s
   there-alone = alone-at i H (g .alone) h
@@ -168,7 +168,7 @@ module _ {f : Form} {x : List ℕ} {t : Statement} (r : Reads july f x (t ∷ []
   module _ (j : List ℕ) where
     -- from entry e on stand these statements
     abbrev pub Standing : ℕ → List Statement → Type 0
-    Standing e B = (i : ℕ) → i < length B → bodyAt j (e + i) ≡ bodyOf (getD B i nothing)
+    Standing e B = (i : ℕ) → i < length B → bodyAt j (e + i) ≡ bodyOf (getD B i noStatement)
 
     next-standing : (e : ℕ) (b : Statement) (B : List Statement) → Standing e (b ∷ B) → Standing (e + 1) B
     next-standing e b B p i h = let z : e + 1 + i ≡ e + suc i = omega arith in rw z (p (suc i) (omega arith))

@@ -9,6 +9,7 @@ use lib.IntN.{ℤ}
 use mir.Syntax.{w64}
 use mir.Val.{toZ, ofZ}
 use borrow.Author.Tests.{not-true, not-false}
+use Rattle.framing.specs.Files.{plain}
 use Rattle.zones.specs.Choice.{pick}
 use Rattle.amounts.proofs.Whole.{back}
 use Rattle.framing.specs.declared.Form.{Form}
@@ -18,7 +19,7 @@ use Rattle.records.specs.Looks.{lookOf}
 use Rattle.records.specs.Tests.{sameKeyIn}
 use Rattle.contents.specs.Heads.{recordAtOf}
 use Rattle.statements.proofs.Judging.{look-small}
-use Rattle.bodies.specs.Bodies.{plain, sameRecords, closingIn}
+use Rattle.bodies.specs.Bodies.{sameRecords, closingIn}
 use Rattle.entries.specs.Entries.{bodyAt}
 use Rattle.journal_layout.specs.declared.Judgement.{Judgement}
 use Rattle.journal_layout.specs.declared.Judgement.the-variants.{Held, First, After}

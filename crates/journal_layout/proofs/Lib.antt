@@ -9,4 +9,5 @@ pub mod Freeing
 pub mod Using
 pub mod Listing
 pub mod Growing
+pub mod Paper
 pub mod One

@@ -10,7 +10,7 @@ use borrow.Author.Tests.{eq-eqb, ne-eqb, eqb-true, eqb-false, le-leb, lt-leb, le
 use Rattle.zones.specs.Choice.{pick}
 use Rattle.grammar.specs.Statements.{Statement}
 use Rattle.grammar.specs.Files.{Writable}
-use Rattle.grammar.specs.Parts.{sizeOf, recordsBefore, nothing}
+use Rattle.grammar.specs.Parts.{sizeOf, recordsBefore, noStatement}
 use Rattle.grammar.proofs.Tests.{clash}
 use Rattle.records.specs.July.{recordSize, july, dateIn}
 use Rattle.readers.specs.declared.Place.the-variants.{At, Refused}
@@ -133,11 +133,11 @@ module _ {s : Statement} (w : Writable july s) where
 
 -- WHAT THE ROWS SAY: in a sound journal the row of entry e, from 1, is that of its statement
 pub listed-row : (j : List ℕ) → soundIn j ≡ true → (e : ℕ) → 1 ≤ e → e ≤ length (heldOf j)
-    → rowOf (entryBytes j (e - 1)) ≡ rowFor (getD (heldOf j) (e - 1) nothing)
+    → rowOf (entryBytes j (e - 1)) ≡ rowFor (getD (heldOf j) (e - 1) noStatement)
 unfolding entryOf rowFor
 listed-row j h e a b =
     let g = journal-held (sound-journal j h) .holding in
-    let s = getD (heldOf j) (e - 1) nothing in
+    let s = getD (heldOf j) (e - 1) noStatement in
     let i : e - 1 < length (heldOf j) = omega arith in
     let w = there-alone g (e - 1) i in
     ap rowOf (there-entry g (e - 1) i)

@@ -9,7 +9,7 @@ use lib.ListN.{length, take, drop, getD}
 use borrow.Author.Tests.{eq-eqb, ne-eqb, le-ltb, leb-true, leb-false, ltb-false, eqb-false, not-true, not-false}
 use Rattle.zones.specs.Choice.{pick}
 use Rattle.grammar.specs.Statements.{Statement}
-use Rattle.grammar.specs.Parts.{sizeOf, recordsBefore, nothing}
+use Rattle.grammar.specs.Parts.{sizeOf, recordsBefore, noStatement}
 use Rattle.grammar.proofs.Tests.{clash}
 use Rattle.records.specs.July.{recordSize}
 use Rattle.readers.specs.declared.Place.the-variants.{At, Refused}
@@ -75,7 +75,7 @@ pub record Stood (j : List ℕ) (e x n : ℕ) : Type 0 where
   pub sound : soundIn j ≡ true
   pub index : e - 1 < length (heldOf j)
   pub first : x ≡ lineAt (recordsBefore (e - 1) (heldOf j))
-  pub len : n ≡ recordSize * sizeOf (getD (heldOf j) (e - 1) nothing)
+  pub len : n ≡ recordSize * sizeOf (getD (heldOf j) (e - 1) noStatement)
 
 pub stood : (j : List ℕ) (e : ℕ) {x n : ℕ} → At x n ≡ entryPlaceOf j e → Stood j e x n
 unfolding entryPlaceOf
@@ -84,7 +84,7 @@ stood j e {x} {n} p = by (soundIn j) refl (eqb e 0) refl (ltb (length (heldOf j)
     by : (a : Bool) → soundIn j ≡ a → (b : Bool) → eqb e 0 ≡ b → (c : Bool) → ltb (length (heldOf j)) e ≡ c
         → At x n
         ≡ pick a
-        (pick (b || c) (Refused 25 0) (At (lineAt (recordsBefore (e - 1) (heldOf j))) (recordSize * sizeOf (getD (heldOf j) (e - 1) nothing))))
+        (pick (b || c) (Refused 25 0) (At (lineAt (recordsBefore (e - 1) (heldOf j))) (recordSize * sizeOf (getD (heldOf j) (e - 1) noStatement))))
         (Refused 21 0)
         → Stood j e x n
     by false s b o c l q = absurd (let z : _≡_ {A = ℕ} 0 1 = cc in omega arith)

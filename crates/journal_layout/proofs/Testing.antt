@@ -11,6 +11,7 @@ use lib.Seq.{take-all}
 use mir.Syntax.{w64}
 use mir.Val.{toZ, ofZ}
 use borrow.Author.Tests.{le-leb, lt-leb, leb-true, eqb-true, not-true, not-false}
+use Rattle.framing.specs.Files.{plain}
 use Rattle.zones.specs.Choice.{pick}
 use Rattle.zones.specs.Class.{blank, all}
 use Rattle.zones.specs.Copy.{sameBytes}
@@ -21,7 +22,7 @@ use Rattle.records.specs.declared.Look.{Look}
 use Rattle.records.specs.Looks.{lookOf}
 use Rattle.contents.specs.Heads.{recordAtOf}
 use Rattle.statements.proofs.Judging.{look-small}
-use Rattle.bodies.specs.Bodies.{plain, single, closingIn}
+use Rattle.bodies.specs.Bodies.{single, closingIn}
 use Rattle.entries.specs.declared.Entry.{Entry}
 use Rattle.entries.specs.Entries.{mostEntries, entrySize, tableSize, lineAt, entryPut, entryBytes, entryIn, linesFrom}
 use Rattle.journal_layout.specs.declared.Judgement.{Judgement}

@@ -1,15 +1,16 @@
 -- The contract of each public function: its one answer, the one final content of what is lent, and the answer as the paper gives it.
 use mathlib.Core.Path.{_≡_}
-use mathlib.Core.Bool.{Bool}
+use mathlib.Core.Bool.{Bool, true, false}
 use mathlib.Core.List.{List}
 use Prim.Native.Nat.{ℕ}
 use lib.ListN.{length}
-use lib.IntN.{ℤ}
+use lib.IntN.{ℤ, pos}
 use Rattle.zones.specs.Choice.{pick}
 use Rattle.framing.specs.declared.Form.{Form}
 use Rattle.readers.specs.declared.Place.{Place}
 use Rattle.journal_layout.specs.declared.Free.{Free}
 use Rattle.journal_layout.specs.declared.Judgement.{Judgement}
+use Rattle.journal_layout.specs.declared.Judgement.the-variants as J
 use Rattle.journal_layout.specs.declared.Opening.{Opening}
 use Rattle.journal_layout.specs.declared.Opening.the-variants.{Opened, Refused}
 use Rattle.journal_layout.specs.declared.Usage.{Usage}
@@ -34,6 +35,18 @@ pub record PaperUsage : Type 0 where
 abbrev pub paperUsage : Usage → PaperUsage
 paperUsage (U.Counted e u l) = record { number = 0; at = 0; entries = e; used = u; lines = l }
 paperUsage (U.Refused n r) = record { number = n; at = r; entries = 0; used = 0; lines = 0 }
+
+-- what a judgement stands for: whether the statement is held, whether it is the first of its account; else the new date and the new balance of the one that it comes after
+pub record PaperJudgement : Type 0 where
+  pub held : Bool
+  pub first : Bool
+  pub date : ℕ
+  pub balance : ℤ
+
+abbrev pub paperJudgement : Judgement → PaperJudgement
+paperJudgement J.Held = record { held = true; first = false; date = 0; balance = pos 0 }
+paperJudgement J.First = record { held = false; first = true; date = 0; balance = pos 0 }
+paperJudgement (J.After d a) = record { held = false; first = false; date = d; balance = a }
 
 -- later
 pub record Later (last : Judgement) (f : Form) (h s : List ℕ) (r : Judgement) : Type 0 where

@@ -24,6 +24,7 @@ unfoldable pub lastAmong : Key → Judgement → List Statement → Judgement
 lastAmong k last [] = last
 lastAmong k last (h ∷ hs) = lastAmong k (pick (sameKey (h .key) k) (After (h .new-date) (h .new-balance)) last) hs
 
+-- held, the first of its account, or after the account's last
 unfoldable pub judgementOf : Statement → List Statement → Judgement
 judgementOf s hs = pick (heldAmong s hs) Held (lastAmong (s .key) First hs)
 
@@ -33,6 +34,7 @@ followsBy Held d a = false
 followsBy First d a = true
 followsBy (After date balance) d a = eqb date d && sameAmount balance a
 
+-- if its account has one, it must follow the last
 abbrev pub follows : Statement → List Statement → Bool
 follows s hs = followsBy (judgementOf s hs) (s .old-date) (s .old-balance)
 
@@ -41,6 +43,7 @@ pub record Links (s t : Statement) : Type 0 where
   pub date : s .new-date ≡ t .old-date
   pub balance : s .new-balance ≡ t .old-balance
 
+-- in an unbroken chain: each with the next
 abbrev pub Chained : List Statement → Type 0
 Chained [] = Unit
 Chained (s ∷ []) = Unit

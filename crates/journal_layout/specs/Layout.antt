@@ -12,7 +12,7 @@ use Rattle.framing.specs.Files.{All}
 use Rattle.grammar.specs.declared.Key.{Key}
 use Rattle.grammar.specs.Statements.{Statement}
 use Rattle.grammar.specs.Files.{Writable}
-use Rattle.grammar.specs.Parts.{sizeOf, recordsBefore, nothing}
+use Rattle.grammar.specs.Parts.{sizeOf, recordsBefore, noStatement}
 use Rattle.records.specs.July.{recordSize, july}
 use Rattle.readers.specs.declared.Place.{Place}
 use Rattle.readers.specs.declared.Place.the-variants.{At, Refused}
@@ -45,8 +45,8 @@ unfoldable pub bodiesOf : List Statement → List ℕ
 bodiesOf ss = flat (map bodyOf ss)
 
 -- Entries fill from the first; bodies stand one after another from line 0. Unused entries and lines are blank.
-unfoldable pub layoutOf : (n : ℕ) → List Statement → List ℕ
-layoutOf n ss =
+unfoldable pub journalOf : (n : ℕ) → List Statement → List ℕ
+journalOf n ss =
     (entriesOf 0 ss ++ replicate (entrySize * (mostEntries - length ss)) 32)
     ++ (bodiesOf ss ++ replicate (recordSize * (n - linesOf ss)) 32)
 
@@ -62,14 +62,14 @@ pub record Keepable (n : ℕ) (ss : List Statement) : Type 0 where
 pub record Journal (j : List ℕ) (ss : List Statement) : Type 0 where
   pub lines : ℕ
   pub most : lines ≤ mostLines
-  pub layout : j ≡ layoutOf lines ss
+  pub layout : j ≡ journalOf lines ss
   pub kept : Keepable lines ss
 
 -- the place of entry e's body, from 1, among held statements
 abbrev pub placeAmong : List Statement → ℕ → Place
 placeAmong ss e =
     pick (eqb e 0 || ltb (length ss) e) (Refused 25 0)
-    (At (lineAt (recordsBefore (e - 1) ss)) (recordSize * sizeOf (getD ss (e - 1) nothing)))
+    (At (lineAt (recordsBefore (e - 1) ss)) (recordSize * sizeOf (getD ss (e - 1) noStatement)))
 
 -- the row of a statement: its account key as in its 01, its old date and its new one
 unfoldable pub rowFor : Statement → List ℕ

@@ -4,19 +4,20 @@ use mathlib.Core.List.{List, [], _∷_}
 use Prim.Native.Nat.{ℕ, zero, suc, _+_, _-_, _*_, _/_}
 use lib.Dec.{eqb, leb}
 use lib.ListN.{length, take, drop, getD, replicate}
+use Rattle.framing.specs.Files.{plain}
 use Rattle.zones.specs.Choice.{pick}
 use Rattle.zones.specs.Class.{blank, all}
 use Rattle.zones.specs.Copy.{sameBytes}
 use Rattle.framing.specs.declared.Form.{Form}
 use Rattle.grammar.specs.Statements.{Statement}
-use Rattle.grammar.specs.Parts.{nothing}
+use Rattle.grammar.specs.Parts.{noStatement}
 use Rattle.records.specs.July.{recordSize}
 use Rattle.records.specs.Looks.{lookOf}
 use Rattle.records.specs.Tests.{sameKeyIn}
 use Rattle.contents.specs.Heads.{recordAtOf}
 use Rattle.readers.specs.declared.Place.{Place}
 use Rattle.readers.specs.declared.Place.the-variants.{At, Refused}
-use Rattle.bodies.specs.Bodies.{plain, bodyOf, single, statementOf, sameRecords, closingIn}
+use Rattle.bodies.specs.Bodies.{bodyOf, single, statementOf, sameRecords, closingIn}
 use Rattle.entries.specs.declared.Entry.{Entry}
 use Rattle.entries.specs.Entries.{mostEntries, entrySize, tableSize, lineAt, entryPut, entryBytes, entryIn, linesFrom, bodyAt}
 use Rattle.journal_layout.specs.declared.Free.{Free}
@@ -114,4 +115,4 @@ bodyFor (At first len) body = body
 bodyFor (Refused n r) body = []
 
 unfoldable pub entryBodyOf : List ℕ → ℕ → List ℕ
-entryBodyOf j e = bodyFor (entryPlaceOf j e) (bodyOf (getD (heldOf j) (e - 1) nothing))
+entryBodyOf j e = bodyFor (entryPlaceOf j e) (bodyOf (getD (heldOf j) (e - 1) noStatement))

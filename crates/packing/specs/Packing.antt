@@ -7,6 +7,7 @@
 use mathlib.Core.Bool.{Bool}
 use Prim.Native.Nat.{ℕ, _+_, _*_, _/_, _%_, _<_}
 use lib.Dec.{eqb}
+use Rattle.zones.specs.Choice.{pick}
 
 -- the weights of bits 20, 40 and 60
 abbrev pub bit20 : ℕ
@@ -49,6 +50,20 @@ answered a b c = pack 0 a b c
 
 abbrev pub refused : (number at : ℕ) → ℕ
 refused number at = pack 1 at number 0
+
+-- an answer of the paper: its refusal where it has a number, else its values
+abbrev pub packed : (number at a b c : ℕ) → ℕ
+packed number at a b c = pick (eqb number 0) (answered a b c) (refused number at)
+
+-- and back, from the bits alone: number and record, 0 where it answered; a value, 0 where it refused
+abbrev pub numberIn : ℕ → ℕ
+numberIn n = pick (isAnswer n) 0 (bIn n)
+
+abbrev pub recordIn : ℕ → ℕ
+recordIn n = pick (isAnswer n) 0 (aIn n)
+
+abbrev pub valueIn : (n value : ℕ) → ℕ
+valueIn n value = pick (isAnswer n) value 0
 
 -- the same for any numbers, of which the low 20 bits are taken
 unfoldable pub answeredOf : (a b c : ℕ) → ℕ

@@ -13,7 +13,7 @@ use Rattle.grammar.specs.declared.Key.{Key}
 use Rattle.grammar.specs.Record.{Rec, isClosing}
 use Rattle.grammar.specs.Statements.{Movement, Statement, sizes, allRecords}
 use Rattle.grammar.specs.Files.{Fine, recOf, pieces, Reads}
-use Rattle.grammar.specs.Parts.{sizeOf, recordsBefore, nothing}
+use Rattle.grammar.specs.Parts.{sizeOf, recordsBefore, noStatement}
 use Rattle.grammar.proofs.Parts.{drop-before}
 use Rattle.grammar.proofs.Rows.{addsThen, movesThen, all-cons}
 use Rattle.records.specs.July.{recordSize, repeats, july, july2004}
@@ -63,7 +63,7 @@ module _ {f : Form} {b : List ℕ} {ss : List Statement} (r : Reads july f b ss)
       let w = widthOf recordSize f in
       let m = recordsBefore j ss in
       let rs = drop m (allRecords july2004 ss) in
-      let s = getD ss j nothing in
+      let s = getD ss j noStatement in
       let z : endAmong w (length b) (m * w) rs ≡ m * w + sizeOf s * w =
-      rw (drop-before july2004 j ss, drop-cons ss j nothing h) (end-one w (length b) s (drop (suc j) ss) (m * w)) in
+      rw (drop-before july2004 j ss, drop-cons ss j noStatement h) (end-one w (length b) s (drop (suc j) ss) (m * w)) in
       rw (r .line, pieces-from r m) (end-pieces w (length b) (drop m (pieces july f b)) (fine-from r m) (m * w) ∙ ap (endAmong w (length b) (m * w)) (records-from r m) ∙ z ∙ rw (before-next j ss h) (sym (add-mul m (sizeOf s) w)))

@@ -6,4 +6,5 @@ pub mod Cursor
 pub mod Placed
 pub mod Turns
 pub mod Movements
+pub mod Paper
 pub mod One

@@ -15,7 +15,7 @@ use Rattle.grammar.specs.declared.Key.{Key}
 use Rattle.grammar.specs.Record.{Rec, closing, isMovement, isComplement}
 use Rattle.grammar.specs.Statements.{Movement, Statement, sizes, allRecords}
 use Rattle.grammar.specs.Files.{Fine, recOf, pieces, Reads}
-use Rattle.grammar.specs.Parts.{recordsBefore, nothing}
+use Rattle.grammar.specs.Parts.{recordsBefore, noStatement}
 use Rattle.grammar.proofs.Parts.{drop-before}
 use Rattle.grammar.proofs.Rows.{addsThen, movesThen, all-cons}
 use Rattle.records.specs.July.{recordSize, repeats, july, july2004}
@@ -84,19 +84,19 @@ size-next (suc i) (x ∷ ms) e = omega (arith, size-next i ms e)
 module _ {f : Form} {b : List ℕ} {ss : List Statement} (r : Reads july f b ss) (j : ℕ) (h : j < length ss) where
   -- the number of records before movement i of statement j, both from 0; the 07 follows the last
   abbrev pub before : ℕ → ℕ
-  before i = recordsBefore j ss + (1 + sizes (take i (getD ss j nothing .movements)))
+  before i = recordsBefore j ss + (1 + sizes (take i (getD ss j noStatement .movements)))
 
   -- the records from there on
   pub rest : (i : ℕ) → (l : List Rec) × (drop (before i) (allRecords july2004 ss)
-      ≡ movesThen july2004 (getD ss j nothing .key) (drop i (getD ss j nothing .movements))
-      (closing (getD ss j nothing .key) (getD ss j nothing .new-date) (getD ss j nothing .new-balance) ∷ l))
+      ≡ movesThen july2004 (getD ss j noStatement .key) (drop i (getD ss j noStatement .movements))
+      (closing (getD ss j noStatement .key) (getD ss j noStatement .new-date) (getD ss j noStatement .new-balance) ∷ l))
   rest i =
-      let s = getD ss j nothing in
+      let s = getD ss j noStatement in
       let n = sizes (take i (s .movements)) in
       let q : 1 + n ≡ suc n = omega arith in (
         allRecords july2004 (drop (suc j) ss),
         sym (drop-drop (1 + n) (recordsBefore j ss) (allRecords july2004 ss))
-            ∙ rw (drop-before july2004 j ss, drop-cons ss j nothing h, all-cons july2004 s (drop (suc j) ss), q) (drop-moves (s .key) i (s .movements) _),
+            ∙ rw (drop-before july2004 j ss, drop-cons ss j noStatement h, all-cons july2004 s (drop (suc j) ss), q) (drop-moves (s .key) i (s .movements) _),
       )
 
   -- the step there is the step among these records
@@ -106,10 +106,10 @@ module _ {f : Form} {b : List ℕ} {ss : List Statement} (r : Reads july f b ss)
   step-at i = rw (r .line, pieces-from r (before i)) (step-pieces (widthOf recordSize f) (drop (before i) (pieces july f b)) (fine-from r (before i)) (length b) (before i * widthOf recordSize f) ∙ ap (stepAmong (widthOf recordSize f) (length b) (before i * widthOf recordSize f)) (records-from r (before i)))
 
   -- THE STEP: from the place of a movement to the place after it, with the number of its 05
-  pub movement-there : (i : ℕ) {m : Movement} {ms : List Movement} → drop i (getD ss j nothing .movements) ≡ m ∷ ms
+  pub movement-there : (i : ℕ) {m : Movement} {ms : List Movement} → drop i (getD ss j noStatement .movements) ≡ m ∷ ms
       → stepOf b f (before i * widthOf recordSize f) ≡ foundStep (length (m .complements)) (before (i + 1) * widthOf recordSize f)
   movement-there i {m} {ms} e =
-      let s = getD ss j nothing in
+      let s = getD ss j noStatement in
       let w = widthOf recordSize f in
       let at = before i * w in
       let n = length (m .complements) in
@@ -122,7 +122,7 @@ module _ {f : Form} {b : List ℕ} {ss : List Statement} (r : Reads july f b ss)
       ∙ ap₂ foundStep (zero-add n) q)
 
   -- behind the last movement there is none
-  pub movement-none : stepOf b f (before (length (getD ss j nothing .movements)) * widthOf recordSize f) ≡ noStep (length b)
+  pub movement-none : stepOf b f (before (length (getD ss j noStatement .movements)) * widthOf recordSize f) ≡ noStep (length b)
   movement-none =
-      let i = length (getD ss j nothing .movements) in
-      step-at i ∙ rw (rest i .1, drop-length (getD ss j nothing .movements))
+      let i = length (getD ss j noStatement .movements) in
+      step-at i ∙ rw (rest i .1, drop-length (getD ss j noStatement .movements))

@@ -14,7 +14,7 @@ use Rattle.framing.specs.Files.{widthOf}
 use Rattle.grammar.specs.Answer.{Counts, Answer, accepted, refused}
 use Rattle.grammar.specs.Statements.{Statement}
 use Rattle.grammar.specs.Files.{Reads, statementsOf, checkOf}
-use Rattle.grammar.specs.Parts.{sizeOf, recordsBefore, nothing, partOf}
+use Rattle.grammar.specs.Parts.{sizeOf, recordsBefore, noStatement, partOf}
 use Rattle.grammar.proofs.Rows.{counts-path}
 use Rattle.records.specs.July.{recordSize, july}
 use Rattle.records.proofs.Theorems.{counts, reads, unique, part-reads}
@@ -70,7 +70,7 @@ module _ {f : Form} {b : List ℕ} {ss : List Statement} (r : Reads july f b ss)
 -- first byte and end of statement k of ss
 pub record Stood (w : ℕ) (ss : List Statement) (k x y : ℕ) : Type 0 where
   pub first : x ≡ recordsBefore (k - 1) ss * w
-  pub end : y ≡ x + sizeOf (getD ss (k - 1) nothing) * w
+  pub end : y ≡ x + sizeOf (getD ss (k - 1) noStatement) * w
 
 module _ (f : Form) (b : List ℕ) (k : ℕ) {s m c : ℕ} (e : C.Accepted s m c ≡ checkedOf (checkOf july f b)) where
   yes : checkOf july f b ≡ accepted (record { statements = s; movements = m; complements = c })
@@ -102,13 +102,13 @@ module _ (f : Form) (b : List ℕ) (k : ℕ) {s m c : ℕ} (e : C.Accepted s m c
         let u : x ≡ recordsBefore (k - 1) ss * w = p ∙ walked r (k - 1) (omega arith) in
         record {
           first = u;
-          end = q ∙ rw u (cursor r (k - 1) l ∙ rw (before-next (k - 1) ss l) (add-mul (recordsBefore (k - 1) ss) (sizeOf (getD ss (k - 1) nothing)) w));
+          end = q ∙ rw u (cursor r (k - 1) l ∙ rw (before-next (k - 1) ss l) (add-mul (recordsBefore (k - 1) ss) (sizeOf (getD ss (k - 1) noStatement)) w));
         }
 
     pub there : At x (y - x) ≡ placeOf f b k
     unfolding placeOf
     there =
-        let n = sizeOf (getD (statementsOf july f b) (k - 1) nothing) * widthOf recordSize f in
+        let n = sizeOf (getD (statementsOf july f b) (k - 1) noStatement) * widthOf recordSize f in
         let v : y - x ≡ n = rw (stood .end) (add-sub-cancel-left x n) in
         ap₂ At (stood .first) v ∙ sym (rw (yes, ne-eqb k 0 z, le-ltb (length (statementsOf july f b)) k (omega (arith, many))))
 
@@ -124,7 +124,7 @@ pub record Found (f : Form) (b : List ℕ) (k x n : ℕ) : Type 0 where
   pub some : k ≡ 0 → ⊥
   pub few : k ≤ length (statementsOf july f b)
   pub first : x ≡ recordsBefore (k - 1) (statementsOf july f b) * widthOf recordSize f
-  pub len : n ≡ sizeOf (getD (statementsOf july f b) (k - 1) nothing) * widthOf recordSize f
+  pub len : n ≡ sizeOf (getD (statementsOf july f b) (k - 1) noStatement) * widthOf recordSize f
 
 same-at : {x y n m : ℕ} → At x n ≡ At y m → (x ≡ y) × (n ≡ m)
 same-at e = (cc, cc)
@@ -168,11 +168,11 @@ module _ (f : Form) (b : List ℕ) (k : ℕ) {x n : ℕ} (e : At x n ≡ placeOf
       let o = g .some in
       let l : k - 1 < length ss = omega (arith, g .few) in
       let z : x + n ≡ recordsBefore (k - 1 + 1) ss * w =
-      ap₂ _+_ (g .first) (g .len) ∙ sym (rw (before-next (k - 1) ss l) (add-mul (recordsBefore (k - 1) ss) (sizeOf (getD ss (k - 1) nothing)) w)) in
+      ap₂ _+_ (g .first) (g .len) ∙ sym (rw (before-next (k - 1) ss l) (add-mul (recordsBefore (k - 1) ss) (sizeOf (getD ss (k - 1) noStatement)) w)) in
       rw z (before-inside r (k - 1 + 1) (omega arith))
 
   -- THE PART IS A FILE OF ONE STATEMENT: it reads as statement k, and nothing else
-  pub part-alone : Reads july f (statementIn f b k) (getD (statementsOf july f b) (k - 1) nothing ∷ [])
+  pub part-alone : Reads july f (statementIn f b k) (getD (statementsOf july f b) (k - 1) noStatement ∷ [])
   part-alone =
       let g = found f b k e in
       let o = g .some in
@@ -202,7 +202,7 @@ pub part-again : (f : Form) (b : List ℕ) (k : ℕ) {x n : ℕ} → At x n ≡ 
 part-again f b k {x} {n} e =
     let g = found f b k e in
     let p = statementIn f b k in
-    let s = getD (statementsOf july f b) (k - 1) nothing in
+    let s = getD (statementsOf july f b) (k - 1) noStatement in
     let c : p ≡ take n (drop x b) = sym (part-cut f b k e) ∙ rw (add-sub-cancel-left x n) in
     let l : length p ≡ n = ap length c ∙ length-take-le n (drop x b) (omega (arith, length-drop x b, part-inside f b k e)) in
     alone-part f p s (part-alone f b k e) (l ∙ g .len)

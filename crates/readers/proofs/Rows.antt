@@ -13,7 +13,7 @@ use Rattle.framing.proofs.Cuts.{Wide, chunks-flat, length-flat, flat-drop}
 use Rattle.grammar.specs.Record.{Rec}
 use Rattle.grammar.specs.Statements.{Statement, allRecords}
 use Rattle.grammar.specs.Files.{Fine, recOf, pieces, Reads}
-use Rattle.grammar.specs.Parts.{sizeOf, recordsBefore, nothing}
+use Rattle.grammar.specs.Parts.{sizeOf, recordsBefore, noStatement}
 use Rattle.grammar.proofs.Rows.{addsThen}
 use Rattle.grammar.proofs.Parts.{all-drop, map-drop}
 use Rattle.grammar.proofs.Canonical.{wide-all}
@@ -27,13 +27,13 @@ drop-adds e [] l n = rw (zero-add n)
 drop-adds e (t ∷ ts) l n = rw (suc-add (length ts) n) (drop-adds e ts l n)
 
 -- one statement more
-next-before : (j : ℕ) (ss : List Statement) → j < length ss → recordsBefore (suc j) ss ≡ recordsBefore j ss + sizeOf (getD ss j nothing)
+next-before : (j : ℕ) (ss : List Statement) → j < length ss → recordsBefore (suc j) ss ≡ recordsBefore j ss + sizeOf (getD ss j noStatement)
 unfolding recordsBefore
 next-before j [] h = absurd (omega arith)
 next-before zero (s ∷ ss) h = omega arith
 next-before (suc j) (s ∷ ss) h = omega (arith, next-before j ss (omega arith))
 
-pub before-next : (j : ℕ) (ss : List Statement) → j < length ss → recordsBefore (j + 1) ss ≡ recordsBefore j ss + sizeOf (getD ss j nothing)
+pub before-next : (j : ℕ) (ss : List Statement) → j < length ss → recordsBefore (j + 1) ss ≡ recordsBefore j ss + sizeOf (getD ss j noStatement)
 before-next j ss h = rw (add-one j) (next-before j ss h)
 
 -- a record has some bytes

@@ -14,7 +14,7 @@ use Rattle.framing.specs.declared.Form.{Form}
 use Rattle.framing.specs.Files.{widthOf}
 use Rattle.grammar.specs.Statements.{Statement, allRecords}
 use Rattle.grammar.specs.Files.{recOf, pieces, Reads, statementsOf}
-use Rattle.grammar.specs.Parts.{sizeOf, recordsBefore, nothing, partOf}
+use Rattle.grammar.specs.Parts.{sizeOf, recordsBefore, noStatement, partOf}
 use Rattle.grammar.proofs.Parts.{drop-before}
 use Rattle.records.specs.July.{recordSize, july, july2004}
 use Rattle.records.proofs.Theorems.{counts, reads, unique}
@@ -33,7 +33,7 @@ module _ {f : Form} {b : List ℕ} {ss : List Statement} (r : Reads july f b ss)
   pub before-end : (j : ℕ) → j < length ss → recordsBefore j ss * widthOf recordSize f < length b
   before-end j h =
       let w = widthOf recordSize f in
-      let n = sizeOf (getD ss j nothing) in
+      let n = sizeOf (getD ss j noStatement) in
       let i = before-inside r (j + 1) (omega arith) in
       let e : recordsBefore (j + 1) ss * w ≡ recordsBefore j ss * w + n * w =
       rw (before-next j ss h) (add-mul (recordsBefore j ss) n w) in
@@ -74,7 +74,7 @@ module _ {f : Form} {b : List ℕ} {ss : List Statement} (r : Reads july f b ss)
   unfolding partOf
   between j h =
       let w = widthOf recordSize f in
-      let n = sizeOf (getD ss j nothing) in
+      let n = sizeOf (getD ss j noStatement) in
       let q : statementsOf july f b ≡ ss = unique (reads f b (counts r)) r in
       let z : j + 1 - 1 ≡ j = omega arith in
       let e : endAfter f b (recordsBefore j ss * w) - recordsBefore j ss * w ≡ n * w =

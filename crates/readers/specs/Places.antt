@@ -10,7 +10,7 @@ use Rattle.framing.specs.Files.{unknownEnd, widthOf, piecesOf}
 use Rattle.grammar.specs.Answer.{Answer, accepted, refused}
 use Rattle.grammar.specs.Statements.{Statement}
 use Rattle.grammar.specs.Files.{statementsOf, checkOf}
-use Rattle.grammar.specs.Parts.{sizeOf, recordsBefore, nothing, partOf}
+use Rattle.grammar.specs.Parts.{sizeOf, recordsBefore, noStatement, partOf}
 use Rattle.records.specs.July.{recordSize, isCode, july}
 use Rattle.readers.specs.declared.Place.{Place}
 use Rattle.readers.specs.declared.Place.the-variants.{At, Refused}
@@ -38,7 +38,7 @@ pub record Fits (w count at size : ℕ) : Type 0 where
 -- From the first byte of its 01 to the end of its 07, line end included; 16 where there is no statement of that number.
 abbrev pub placeAmong : (w : ℕ) → List Statement → ℕ → Place
 placeAmong w ss k =
-    pick (eqb k 0 || ltb (length ss) k) (Refused 16 0) (At (recordsBefore (k - 1) ss * w) (sizeOf (getD ss (k - 1) nothing) * w))
+    pick (eqb k 0 || ltb (length ss) k) (Refused 16 0) (At (recordsBefore (k - 1) ss * w) (sizeOf (getD ss (k - 1) noStatement) * w))
 
 -- the file's refusals come first
 abbrev pub placeBy : Answer → (w : ℕ) → List Statement → ℕ → Place

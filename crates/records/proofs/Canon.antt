@@ -23,7 +23,7 @@ use Rattle.grammar.specs.declared.Key.{Key}
 use Rattle.grammar.specs.Record.{Rec, opening, movement, closing}
 use Rattle.grammar.specs.Files.{Alike}
 use Rattle.records.specs.Layouts.{layout01, layout04, layout05, layoutMmo, layout07}
-use Rattle.records.specs.July.{recordSize, isCode, isMmo, unknownCode, layout05Of, layoutOf, misfit, undated, keyIn, dateIn, amountIn, decodeRecord, canonRecord, hasDebitZero, july}
+use Rattle.records.specs.July.{recordSize, isCode, isMmo, unknownCode, layout05Of, layoutFor, misfit, undated, keyIn, dateIn, amountIn, decodeRecord, canonRecord, hasDebitZero, july}
 use Rattle.records.proofs.Covered.{covers01, covers04, covers05, covers-mmo, covers07}
 use Rattle.records.proofs.Coded.{other, as01, as04, as05}
 
@@ -61,7 +61,7 @@ module _ (b : List ℕ) (l : length b ≡ recordSize) where
       by false = canon-front 0 recordSize layout05 [] b covers05 (omega arith) refl ∙ (append-nil (take recordSize b) ∙ take-all recordSize b (omega arith))
 
   -- a layout by which b is judged, and by which it is judged as the writer writes it
-  alike-by : (zs : List Zone) → covers 0 recordSize zs ≡ true → layoutOf b ≡ zs → layoutOf (canon zs b) ≡ zs
+  alike-by : (zs : List Zone) → covers 0 recordSize zs ≡ true → layoutFor b ≡ zs → layoutFor (canon zs b) ≡ zs
       → unknownCode (canon zs b) ≡ unknownCode b → decodeRecord (canon zs b) ≡ decodeRecord b → Alike july (canonRecord b) b
   unfolding canonRecord misfit undated
   alike-by zs g p q u v =
@@ -85,7 +85,7 @@ module _ (b : List ℕ) (l : length b ≡ recordSize) where
 
   -- no rule and no value tells a record from what it is written as
   pub alike : Alike july (canonRecord b) b
-  unfolding canonRecord layoutOf decodeRecord balanceIn movementIn
+  unfolding canonRecord layoutFor decodeRecord balanceIn movementIn
   alike = by (isCode "01" b) (isCode "04" b) (isCode "05" b) refl refl refl
     where
       by : (t u v : Bool) → isCode "01" b ≡ t → isCode "04" b ≡ u → isCode "05" b ≡ v → Alike july (canonRecord b) b
@@ -117,7 +117,7 @@ module _ (b : List ℕ) (l : length b ≡ recordSize) where
 
   -- BY POSITION: an amount stands in 91-104 of all records but a 05
   pub canon-place : canonRecord b ≡ pick (isCode "05" b) b (take 90 b ++ (asWritten (part 91 104 b) ++ drop 104 b))
-  unfolding canonRecord layoutOf every sameBytes
+  unfolding canonRecord layoutFor every sameBytes
   canon-place = by (isCode "01" b) (isCode "04" b) (isCode "05" b) refl refl refl
     where
       rest : part 105 120 b ++ [] ≡ drop 104 b

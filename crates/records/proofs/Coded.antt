@@ -11,11 +11,11 @@ use Rattle.zones.proofs.Copies.{same-equal, equal-same}
 use Rattle.layouts.specs.Zone.{part, Zone}
 use Rattle.grammar.specs.Record.{Rec, opening, movement, complement, closing}
 use Rattle.records.specs.Layouts.{layout01, layout04, layout07}
-use Rattle.records.specs.July.{isCode, unknownCode, layout05Of, layoutOf, keyIn, dateIn, amountIn, postingIn, decodeRecord}
+use Rattle.records.specs.July.{isCode, unknownCode, layout05Of, layoutFor, keyIn, dateIn, amountIn, postingIn, decodeRecord}
 
 -- the layout and the values of the bytes b
 pub record As (b : List ℕ) (zs : List Zone) (r : Rec) : Type 0 where
-  pub layout : layoutOf b ≡ zs
+  pub layout : layoutFor b ≡ zs
   pub values : decodeRecord b ≡ r
   pub known : unknownCode b ≡ false
 
@@ -36,24 +36,24 @@ other c d b n h = by (isCode c b) refl
     by false e = refl
 
 pub as01 : (b : List ℕ) → isCode "01" b ≡ true → As b layout01 (opening (keyIn b) (dateIn b) (amountIn b))
-unfolding layoutOf decodeRecord unknownCode
+unfolding layoutFor decodeRecord unknownCode
 as01 b h = record { layout = rw h; values = rw h; known = rw h }
 
 pub as04 : (b : List ℕ) → isCode "04" b ≡ true → As b layout04 (movement (keyIn b) (postingIn b))
-unfolding layoutOf decodeRecord unknownCode sameBytes
+unfolding layoutFor decodeRecord unknownCode sameBytes
 as04 b h =
     let a = other "01" "04" b refl h in
     record { layout = rw (a, h); values = rw (a, h); known = rw (a, h) }
 
 pub as05 : (b : List ℕ) → isCode "05" b ≡ true → As b (layout05Of (part 46 118 b)) (complement (part 3 40 b) (part 46 118 b))
-unfolding layoutOf decodeRecord unknownCode sameBytes
+unfolding layoutFor decodeRecord unknownCode sameBytes
 as05 b h =
     let a = other "01" "05" b refl h in
     let c = other "04" "05" b refl h in
     record { layout = rw (a, c, h); values = rw (a, c, h); known = rw (a, c, h) }
 
 pub as07 : (b : List ℕ) → isCode "07" b ≡ true → As b layout07 (closing (keyIn b) (dateIn b) (amountIn b))
-unfolding layoutOf decodeRecord unknownCode sameBytes
+unfolding layoutFor decodeRecord unknownCode sameBytes
 as07 b h =
     let a = other "01" "07" b refl h in
     let c = other "04" "07" b refl h in

@@ -14,7 +14,7 @@ use Rattle.grammar.specs.declared.Key.{Key}
 use Rattle.grammar.specs.Record.{Posting, Rec, opening, movement, complement, closing}
 use Rattle.grammar.specs.Files.{Fine, Lawful}
 use Rattle.records.specs.Layouts.{layout01, layout04, layout07}
-use Rattle.records.specs.July.{recordSize, isCode, layout05Of, layoutOf, decodeRecord, balanceValues, movementValues, writeBalance, writeMovement, writeComplement, encodeRecord, Holds, canonRecord, july}
+use Rattle.records.specs.July.{recordSize, isCode, layout05Of, layoutFor, decodeRecord, balanceValues, movementValues, writeBalance, writeMovement, writeComplement, encodeRecord, Holds, canonRecord, july}
 use Rattle.records.proofs.Covered.{covers01, covers04, covers07}
 use Rattle.records.proofs.Coded.{As, as01, as04, as05, as07, Coded, is01, is04, is05, is07, coded}
 use Rattle.records.proofs.Valued.{Judged, judged, fine, written-length, written-judged, written-marks, written-permitted}
@@ -36,7 +36,7 @@ again : (b : List ℕ) → length b ≡ recordSize → Fine july b → encodeRec
 unfolding writeBalance writeMovement canonRecord
 again b l f = by (coded b (f .known))
   where
-    by : Coded b → encodeRecord (decodeRecord b) ≡ canon (layoutOf b) b
+    by : Coded b → encodeRecord (decodeRecord b) ≡ canon (layoutFor b) b
     by (is01 h a) = rw (a .layout) (ap encodeRecord (a .values) ∙ encode-decode recordSize layout01 b covers01 l (fits01 b h (judged l a f)))
     by (is04 h a) = rw (a .layout) (ap encodeRecord (a .values) ∙ encode-decode recordSize layout04 b covers04 l (fits04 b h (judged l a f)))
     by (is05 h a) = rw (a .layout) (ap encodeRecord (a .values) ∙ complement-again b l h (judged l a f) ∙ sym (canon05 b l))

@@ -20,7 +20,7 @@ use Rattle.amounts.specs.declared.Amount.the-variants.{Value, NoAmount}
 use Rattle.dates.specs.Days.{dateOf}
 use Rattle.layouts.specs.Zone.{part, zoned, dated, run, isDate}
 use Rattle.records.specs.Layouts.{layout01, layout04, layout05, layoutMmo}
-use Rattle.records.specs.July.{recordSize, isCode, unknownCode, isMmo, layout05Of, layoutOf, misfit, undated, dateIn, amountIn}
+use Rattle.records.specs.July.{recordSize, isCode, unknownCode, isMmo, layout05Of, layoutFor, misfit, undated, dateIn, amountIn}
 use Rattle.records.specs.Looks.{kindOf, hasValue, noRecord, lookOf}
 use Rattle.records.specs.declared.Look.{Look}
 
@@ -46,13 +46,13 @@ value-amount z = by (isAmount z)
 
 -- the layout, by the kind
 pub record Kinds (b : List ℕ) : Type 0 where
-  pub four : kindOf b ≡ 4 → layoutOf b ≡ layout04
-  pub five : kindOf b ≡ 5 → layoutOf b ≡ layout05Of (part 46 118 b)
-  pub balance : (kindOf b ≡ 4 → ⊥) → (kindOf b ≡ 5 → ⊥) → run zoned (layoutOf b) b ≡ run zoned layout01 b
-  pub dates : (kindOf b ≡ 4 → ⊥) → run dated (layoutOf b) b ≡ isDate (dateOf (part 35 40 b))
+  pub four : kindOf b ≡ 4 → layoutFor b ≡ layout04
+  pub five : kindOf b ≡ 5 → layoutFor b ≡ layout05Of (part 46 118 b)
+  pub balance : (kindOf b ≡ 4 → ⊥) → (kindOf b ≡ 5 → ⊥) → run zoned (layoutFor b) b ≡ run zoned layout01 b
+  pub dates : (kindOf b ≡ 4 → ⊥) → run dated (layoutFor b) b ≡ isDate (dateOf (part 35 40 b))
 
 pub kinds : (b : List ℕ) → Kinds b
-unfolding kindOf layoutOf
+unfolding kindOf layoutFor
 kinds b = by (isCode "01" b) (isCode "04" b) (isCode "05" b) (isMmo (part 46 118 b)) refl refl refl refl
   where
     by : (x y z m : Bool) → isCode "01" b ≡ x → isCode "04" b ≡ y → isCode "05" b ≡ z → isMmo (part 46 118 b) ≡ m → Kinds b
@@ -69,26 +69,26 @@ kinds b = by (isCode "01" b) (isCode "04" b) (isCode "05" b) (isMmo (part 46 118
 
 -- the zones of a record, by its kind
 module _ (b : List ℕ) {k : ℕ} (e : k ≡ kindOf b) where
-  pub fit-four : {t : Bool} → k ≡ 4 → t ≡ run zoned layout04 b → t ≡ run zoned (layoutOf b) b
+  pub fit-four : {t : Bool} → k ≡ 4 → t ≡ run zoned layout04 b → t ≡ run zoned (layoutFor b) b
   fit-four h p = rw (kinds b .four (sym e ∙ h)) p
 
-  pub fit-balance : {t : Bool} → (k ≡ 4 → ⊥) → (k ≡ 5 → ⊥) → t ≡ run zoned layout01 b → t ≡ run zoned (layoutOf b) b
+  pub fit-balance : {t : Bool} → (k ≡ 4 → ⊥) → (k ≡ 5 → ⊥) → t ≡ run zoned layout01 b → t ≡ run zoned (layoutFor b) b
   fit-balance g h p = p ∙ sym (kinds b .balance (λ q. g (e ∙ q)) (λ q. h (e ∙ q)))
 
-  pub fit-mmo : {t : Bool} → k ≡ 5 → isMmo (part 46 118 b) ≡ true → t ≡ run zoned layoutMmo b → t ≡ run zoned (layoutOf b) b
+  pub fit-mmo : {t : Bool} → k ≡ 5 → isMmo (part 46 118 b) ≡ true → t ≡ run zoned layoutMmo b → t ≡ run zoned (layoutFor b) b
   fit-mmo h m p = rw (kinds b .five (sym e ∙ h), m) p
 
-  pub fit-plain : {t : Bool} → k ≡ 5 → isMmo (part 46 118 b) ≡ false → t ≡ run zoned layout05 b → t ≡ run zoned (layoutOf b) b
+  pub fit-plain : {t : Bool} → k ≡ 5 → isMmo (part 46 118 b) ≡ false → t ≡ run zoned layout05 b → t ≡ run zoned (layoutFor b) b
   fit-plain h m p = rw (kinds b .five (sym e ∙ h), m) p
 
-  pub dates-four : {x y : Bool} → k ≡ 4 → x ≡ isDate (dateOf (part 35 40 b)) → y ≡ isDate (dateOf (part 43 48 b)) → (x && y) ≡ run dated (layoutOf b) b
+  pub dates-four : {x y : Bool} → k ≡ 4 → x ≡ isDate (dateOf (part 35 40 b)) → y ≡ isDate (dateOf (part 43 48 b)) → (x && y) ≡ run dated (layoutFor b) b
   dates-four h p q = rw (kinds b .four (sym e ∙ h)) (conj p q)
 
-  pub dates-other : {x : Bool} → (k ≡ 4 → ⊥) → x ≡ isDate (dateOf (part 35 40 b)) → x ≡ run dated (layoutOf b) b
+  pub dates-other : {x : Bool} → (k ≡ 4 → ⊥) → x ≡ isDate (dateOf (part 35 40 b)) → x ≡ run dated (layoutFor b) b
   dates-other h p = p ∙ sym (kinds b .dates (λ q. h (e ∙ q)))
 
 -- all that the code knows of a record, from what it was told
-pub looked : (b : List ℕ) → length b ≡ recordSize → {u m s d c : Bool} {k day : ℕ} {v : ℤ} → u ≡ unknownCode b → k ≡ kindOf b → s ≡ run zoned (layoutOf b) b → d ≡ run dated (layoutOf b) b
+pub looked : (b : List ℕ) → length b ≡ recordSize → {u m s d c : Bool} {k day : ℕ} {v : ℤ} → u ≡ unknownCode b → k ≡ kindOf b → s ≡ run zoned (layoutFor b) b → d ≡ run dated (layoutFor b) b
     → day ≡ dateIn b → v ≡ amountIn b → m ≡ isMmo (part 46 118 b) → c ≡ all permitted b
     → _≡_ {A = Look} (record { unknown = u; kind = k; misfit = not s; undated = not d; day = day; amount = v; mmo = m; permitted = c }) (lookOf b)
 unfolding lookOf misfit undated

@@ -19,8 +19,8 @@ use Rattle.grammar.specs.Machine.{judgeOf, scan}
 use Rattle.grammar.specs.Rules.{outOfPlace, differs, misdated, unsummed, secondMmo, tooLong}
 use Rattle.grammar.specs.Statements.{Statement, back}
 use Rattle.grammar.specs.Files.{relined, checkOf, statementsOf}
-use Rattle.records.specs.July.{unknownCode, layoutOf, misfit, undated, decodeRecord, july}
-use Rattle.records.specs.Worked.{nil-old, nil-new, nil, plain, lf, crlf, counts}
+use Rattle.records.specs.July.{unknownCode, layoutFor, misfit, undated, decodeRecord, july}
+use Rattle.records.specs.Worked.{nil-old, nil-new, nil, bare, lf, crlf, counts}
 
 -- the form with line end n
 abbrev pub form : ℕ → Form
@@ -41,7 +41,7 @@ abbrev pub two : List ℕ
 two = lf (nil-old ∷ nil-new ∷ next-old ∷ next-new ∷ [])
 
 abbrev pub lone : List ℕ
-lone = plain (nil-new ∷ [])
+lone = bare (nil-new ∷ [])
 
 -- their statements
 abbrev period : (from to : ℕ) → Statement
@@ -76,7 +76,7 @@ lone-holds = refl
 
 -- the second is accepted too, the last is refused
 pub two-accepted : checkOf july (form 1) two ≡ counts 2 0 0
-unfolding every sameBytes valueFrom signIndex signOf isDebit magnitude amountOf yearOf daysIn exists dayOf dateOf endOf widthOf chunks sameKey judgeOf scan outOfPlace differs misdated unsummed secondMmo tooLong checkOf unknownCode layoutOf misfit undated decodeRecord
+unfolding every sameBytes valueFrom signIndex signOf isDebit magnitude amountOf yearOf daysIn exists dayOf dateOf endOf widthOf chunks sameKey judgeOf scan outOfPlace differs misdated unsummed secondMmo tooLong checkOf unknownCode layoutFor misfit undated decodeRecord
 two-accepted = refl
 
 pub lone-refused : checkOf july (form 0) lone ≡ refused 7 1

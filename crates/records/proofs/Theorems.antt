@@ -16,7 +16,7 @@ use Rattle.grammar.specs.Answer.{Counts, Answer, accepted}
 use Rattle.grammar.specs.Statements.{Statement, countsOf}
 use Rattle.grammar.specs.Files.{pieces, checkOf, canonical, relined, layoutOf, Gives, Reads, statementsOf, Writable, Ruled}
 use Rattle.grammar.specs.Demand.{Demand2}
-use Rattle.grammar.specs.Parts.{partOf, nothing}
+use Rattle.grammar.specs.Parts.{partOf, noStatement}
 use Rattle.grammar.proofs.Canonical as N
 use Rattle.grammar.proofs.Exact as G
 use Rattle.grammar.proofs.Relined as E
@@ -137,5 +137,5 @@ pub writable : (s : Statement) → ((f : Form) × ((b : List ℕ) × Reads july 
 writable = T.writable july july-lawful
 
 -- the part of a statement is a file of exactly that statement
-pub part-reads : {f : Form} {b : List ℕ} {ss : List Statement} → Reads july f b ss → (j : ℕ) → j < length ss → Reads july f (partOf july f b (j + 1)) (getD ss j nothing ∷ [])
+pub part-reads : {f : Form} {b : List ℕ} {ss : List Statement} → Reads july f b ss → (j : ℕ) → j < length ss → Reads july f (partOf july f b (j + 1)) (getD ss j noStatement ∷ [])
 part-reads r j h = P.part-reads july july-lawful r j h

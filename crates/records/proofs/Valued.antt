@@ -12,7 +12,7 @@ use Rattle.layouts.specs.Zone.{Zone, marked, zoned, dated, run, Values, encode,
 use Rattle.layouts.proofs.PerLayout.{fits-encode, fits-permitted, length-encode}
 use Rattle.grammar.specs.Record.{Rec}
 use Rattle.grammar.specs.Files.{Fine}
-use Rattle.records.specs.July.{recordSize, layoutOf, fits, misfit, undated, july}
+use Rattle.records.specs.July.{recordSize, layoutFor, fits, misfit, undated, july}
 use Rattle.records.proofs.Coded.{As}
 
 -- the zones and dates of a record to which no rule applies
@@ -24,8 +24,8 @@ pub judged : {zs : List Zone} {b : List ℕ} {r : Rec} → length b ≡ recordSi
 unfolding misfit undated
 judged {zs} {b} l a f =
     record {
-      zones = rw (a .layout) at (and-right (eqb (length b) recordSize) (run zoned (layoutOf b) b) (not-false (fits zoned b) (f .fits)));
-      dates = rw (a .layout) at (and-right (eqb (length b) recordSize) (run dated (layoutOf b) b) (not-false (fits dated b) (f .dated)));
+      zones = rw (a .layout) at (and-right (eqb (length b) recordSize) (run zoned (layoutFor b) b) (not-false (fits zoned b) (f .fits)));
+      dates = rw (a .layout) at (and-right (eqb (length b) recordSize) (run dated (layoutFor b) b) (not-false (fits dated b) (f .dated)));
     }
 
 -- a record that fits its layout has no rule on its bytes alone

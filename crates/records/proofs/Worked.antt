@@ -19,12 +19,12 @@ use Rattle.grammar.specs.Machine.{judgeOf, scan}
 use Rattle.grammar.specs.Rules.{outOfPlace, differs, misdated, unsummed, secondMmo, tooLong}
 use Rattle.grammar.specs.Files.{pieces, checkOf}
 use Rattle.grammar.specs.Demand.{Demand2}
-use Rattle.records.specs.July.{unknownCode, isMmo, layoutOf, misfit, undated, decodeRecord, writeMovement, repeats, canonRecord, noDebitZero, july}
+use Rattle.records.specs.July.{unknownCode, isMmo, layoutFor, misfit, undated, decodeRecord, writeMovement, repeats, canonRecord, noDebitZero, july}
 use Rattle.records.specs.Worked.{nil, counts, cases, written, answers, expected}
 use Rattle.records.proofs.Theorems.{reads, accepted-reads}
 
 pub worked : answers cases ≡ expected cases
-unfolding every sameBytes valueFrom digitsInto signIndex signOf isDebit magnitude amountOf signedText yearOf daysIn exists dayOf dateOf dateText endOf widthOf chunks sameKey judgeOf scan outOfPlace differs misdated unsummed secondMmo tooLong checkOf unknownCode isMmo layoutOf misfit undated decodeRecord writeMovement repeats
+unfolding every sameBytes valueFrom digitsInto signIndex signOf isDebit magnitude amountOf signedText yearOf daysIn exists dayOf dateOf dateText endOf widthOf chunks sameKey judgeOf scan outOfPlace differs misdated unsummed secondMmo tooLong checkOf unknownCode isMmo layoutFor misfit undated decodeRecord writeMovement repeats
 worked = refl
 
 -- the first of them, an empty account, is accepted
@@ -44,5 +44,5 @@ refuses-debit-zero check refuses d =
     refuses f nil _ nil-debit (accepted-reads check d f nil _ (reads f nil nil-accepted))
 
 pub worked-written : map {A = String × String} {B = List ℕ} (λ p. canonRecord (bytes (p .0))) written ≡ map (λ p. bytes (p .1)) written
-unfolding canonRecord layoutOf isMmo sameBytes asWritten
+unfolding canonRecord layoutFor isMmo sameBytes asWritten
 worked-written = refl

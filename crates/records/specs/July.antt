@@ -47,15 +47,15 @@ isMmo t = sameBytes (bytes "MMO") (take 3 t)
 abbrev pub layout05Of : List ℕ → List Zone
 layout05Of t = pick (isMmo t) layoutMmo layout05
 
-unfoldable pub layoutOf : List ℕ → List Zone
-layoutOf b =
+unfoldable pub layoutFor : List ℕ → List Zone
+layoutFor b =
     pick (isCode "01" b) layout01
     (pick (isCode "04" b) layout04
     (pick (isCode "05" b) (layout05Of (part 46 118 b)) layout07))
 
 -- a record of 120 bytes passes a rule by its layout; one of another length fits none
 abbrev pub fits : (Kind → Ask) → List ℕ → Bool
-fits rule b = eqb (length b) recordSize && run rule (layoutOf b) b
+fits rule b = eqb (length b) recordSize && run rule (layoutFor b) b
 
 -- 8: zone against its table line, or amount not as said
 unfoldable pub misfit : List ℕ → Bool
@@ -207,7 +207,7 @@ Holds (closing k d a) = holdsAll layout07 (balanceValues "07" k d a) ≡ true
 
 -- A record as the writer writes it, by its layout: the amount of an 01, 04 or 07 with `{` for a debit zero; a 05 as it stands.
 unfoldable pub canonRecord : List ℕ → List ℕ
-canonRecord b = canon (layoutOf b) b
+canonRecord b = canon (layoutFor b) b
 
 -- A debit zero stands where an 01, 04 or 07 has its amount: in 91-104 of any record but a 05.
 abbrev pub hasDebitZero : List ℕ → Bool

@@ -47,8 +47,8 @@ nil-old = "0112345    00010EUR2 0001234567A  310125                             
 abbrev pub nil-new : String
 nil-new = "0712345    00010EUR2 0001234567A  280225                                                  0000000000000}                "
 
-abbrev pub nothing : String
-nothing = "0412345    00010EUR2 0001234567A05050225  0602250000000000000}                   0000000000000000000000}0000000000000}  "
+abbrev pub nil-movement : String
+nil-movement = "0412345    00010EUR2 0001234567A05050225  0602250000000000000}                   0000000000000000000000}0000000000000}  "
 
 abbrev pub seven : String
 seven = "0412345    00010EUR2 0001234567A05050225  060225                                 0000000000000000000000G                "
@@ -64,8 +64,8 @@ abbrev pub file : List ℕ → List String → List ℕ
 file end [] = []
 file end (r ∷ rs) = bytes r ++ (end ++ file end rs)
 
-abbrev pub plain : List String → List ℕ
-plain rs = file [] rs
+abbrev pub bare : List String → List ℕ
+bare rs = file [] rs
 
 abbrev pub lf : List String → List ℕ
 lf rs = file (10 ∷ []) rs
@@ -92,24 +92,24 @@ abbrev pub cases : List Case
 cases =
     case 1 nil (counts 1 0 0)
     ∷ case 0 [] (counts 0 0 0)
-    ∷ case 0 (plain (old ∷ receipt ∷ debit ∷ new ∷ [])) (counts 1 2 0)
+    ∷ case 0 (bare (old ∷ receipt ∷ debit ∷ new ∷ [])) (counts 1 2 0)
     ∷ case 1 (lf (old ∷ receipt ∷ debit ∷ mmo ∷ new ∷ [])) (counts 1 2 1)
     ∷ case 2 (crlf (old ∷ receipt ∷ debit ∷ new ∷ [])) (counts 1 2 0)
     ∷ case 3 [] (refused 1 0)
     ∷ case 0 (lf (old ∷ [])) (refused 2 0)
     ∷ case 1 (file (13 ∷ []) (old ∷ receipt ∷ debit ∷ new ∷ [])) (refused 4 1)
-    ∷ case 0 (plain (old ∷ mmo ∷ new ∷ [])) (refused 7 2)
-    ∷ case 0 (plain (old ∷ receipt ∷ debit ∷ lowercase ∷ [])) (refused 8 4)
-    ∷ case 0 (plain (old ∷ receipt ∷ debit ∷ unreal ∷ [])) (refused 9 4)
-    ∷ case 0 (plain (old ∷ receipt ∷ mmo ∷ new ∷ [])) (refused 10 3)
-    ∷ case 0 (plain (old ∷ receipt ∷ debit ∷ elsewhere ∷ [])) (refused 10 4)
-    ∷ case 0 (plain (old ∷ receipt ∷ debit ∷ mmo ∷ mmo ∷ new ∷ [])) (refused 11 5)
-    ∷ case 0 (plain (old ∷ receipt ∷ debit ∷ early ∷ [])) (refused 12 4)
-    ∷ case 0 (plain (old ∷ receipt ∷ debit ∷ unsummed ∷ [])) (refused 13 4)
-    ∷ case 0 (plain (old ∷ receipt ∷ [])) (refused 14 2)
-    ∷ case 0 (plain (nil-old ∷ nothing ∷ note ∷ nil-new ∷ [])) (counts 1 1 1)
-    ∷ case 0 (plain (nil-old ∷ seven ∷ nil-new ∷ [])) (refused 13 3)
-    ∷ case 0 (plain (old ∷ receipt ∷ debit ∷ mmo-nil ∷ new ∷ [])) (refused 8 4)
+    ∷ case 0 (bare (old ∷ mmo ∷ new ∷ [])) (refused 7 2)
+    ∷ case 0 (bare (old ∷ receipt ∷ debit ∷ lowercase ∷ [])) (refused 8 4)
+    ∷ case 0 (bare (old ∷ receipt ∷ debit ∷ unreal ∷ [])) (refused 9 4)
+    ∷ case 0 (bare (old ∷ receipt ∷ mmo ∷ new ∷ [])) (refused 10 3)
+    ∷ case 0 (bare (old ∷ receipt ∷ debit ∷ elsewhere ∷ [])) (refused 10 4)
+    ∷ case 0 (bare (old ∷ receipt ∷ debit ∷ mmo ∷ mmo ∷ new ∷ [])) (refused 11 5)
+    ∷ case 0 (bare (old ∷ receipt ∷ debit ∷ early ∷ [])) (refused 12 4)
+    ∷ case 0 (bare (old ∷ receipt ∷ debit ∷ unsummed ∷ [])) (refused 13 4)
+    ∷ case 0 (bare (old ∷ receipt ∷ [])) (refused 14 2)
+    ∷ case 0 (bare (nil-old ∷ nil-movement ∷ note ∷ nil-new ∷ [])) (counts 1 1 1)
+    ∷ case 0 (bare (nil-old ∷ seven ∷ nil-new ∷ [])) (refused 13 3)
+    ∷ case 0 (bare (old ∷ receipt ∷ debit ∷ mmo-nil ∷ new ∷ [])) (refused 8 4)
     ∷ []
 
 -- records and what they are written as
@@ -118,7 +118,7 @@ written =
     (nil-old, "0112345    00010EUR2 0001234567A  310125                                                  0000000000000{                ")
     ∷ (nil-new, "0712345    00010EUR2 0001234567A  280225                                                  0000000000000{                ")
     ∷ (old, old)
-    ∷ (nothing, "0412345    00010EUR2 0001234567A05050225  0602250000000000000}                   0000000000000000000000{0000000000000}  ")
+    ∷ (nil-movement, "0412345    00010EUR2 0001234567A05050225  0602250000000000000}                   0000000000000000000000{0000000000000}  ")
     ∷ (note, note)
     ∷ []
 

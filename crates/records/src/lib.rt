@@ -9,7 +9,7 @@ ghost use Rattle.amounts.specs.Amounts.{isAmount};
 ghost use Rattle.dates.specs.Days.{dateOf};
 ghost use Rattle.layouts.specs.Zone.{part, zoned, dated, run, dayIn, isDate, valueIn, blanks, text};
 ghost use Rattle.records.specs.Layouts.{front, layout01, layout04, layout05, layoutMmo};
-ghost use Rattle.records.specs.July.{recordSize, unknownCode, isMmo, layoutOf};
+ghost use Rattle.records.specs.July.{recordSize, unknownCode, isMmo, layoutFor};
 ghost use Rattle.records.specs.Looks.{kindOf, hasValue, eitherOf};
 ghost use Rattle.records.specs.Answers.{LookAt, SameKey, SameFront};
 use amounts::Amount;
@@ -202,7 +202,7 @@ fn mmo_zones(r: &[u8]) -> bool
 // 8: the zones of a record's own layout.
 fn zones_fit(r: &[u8], kind: u8, mmo: bool, amount: bool, clean: bool) -> bool
     requires { ⌜ (length (now r) ≡ recordSize) × (kind ≡ kindOf (now r)) × (mmo ≡ isMmo (part 46 118 (now r))) × (amount ≡ isAmount (part 91 104 (now r))) × (clean ≡ all permitted (now r)) ⌝ }
-    ensures { λ t. ⌜ t ≡ run zoned (layoutOf (now (r .entry))) (now (r .entry)) ⌝ }
+    ensures { λ t. ⌜ t ≡ run zoned (layoutFor (now (r .entry))) (now (r .entry)) ⌝ }
 {
     if kind == 4 {
         return movement_zones(r, amount, clean);
@@ -219,7 +219,7 @@ fn zones_fit(r: &[u8], kind: u8, mmo: bool, amount: bool, clean: bool) -> bool
 // 9: the date of every record, and the value date of a 04.
 fn dates_fit(r: &[u8], kind: u8, exists: bool) -> bool
     requires { ⌜ (length (now r) ≡ recordSize) × (kind ≡ kindOf (now r)) × (exists ≡ isDate (dateOf (part 35 40 (now r)))) ⌝ }
-    ensures { λ t. ⌜ t ≡ run dated (layoutOf (now (r .entry))) (now (r .entry)) ⌝ }
+    ensures { λ t. ⌜ t ≡ run dated (layoutFor (now (r .entry))) (now (r .entry)) ⌝ }
 {
     if kind == 4 {
         return exists & is_date(dates::read(&r[42..48]));

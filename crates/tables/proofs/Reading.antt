@@ -13,7 +13,7 @@ use Rattle.grammar.specs.Record.{Rec, movement, closing}
 use Rattle.grammar.specs.Statements as values
 use Rattle.grammar.specs.Statements.{Statement, allRecords}
 use Rattle.grammar.specs.Files.{Reads, statementsOf, checkOf}
-use Rattle.grammar.specs.Parts.{nothing}
+use Rattle.grammar.specs.Parts.{noStatement}
 use Rattle.grammar.proofs.Rows.{addsThen, movesThen}
 use Rattle.records.specs.July.{recordSize, repeats, july, july2004}
 use Rattle.fields.specs.Rows.{rowOf, rowAtOf}
@@ -42,7 +42,7 @@ gathered b f at e p q = rw (q, p, e)
 
 module _ {f : Form} {b : List ℕ} {ss : List Statement} (r : Reads july f b ss) (j : ℕ) (h : j < length ss) where
   abbrev ms : List values.Movement
-  ms = getD ss j nothing .movements
+  ms = getD ss j noStatement .movements
 
   -- the place of movement i, from 0
   abbrev placed : ℕ → ℕ
@@ -52,9 +52,9 @@ module _ {f : Form} {b : List ℕ} {ss : List Statement} (r : Reads july f b ss)
   at i = getD ms i noMovement
 
   -- its 04 stands there
-  movement-here : (i : ℕ) → i < length ms → (l : List Rec) × (drop (before r j h i) (allRecords july2004 ss) ≡ movement (getD ss j nothing .key) (at i .posting) ∷ l)
+  movement-here : (i : ℕ) → i < length ms → (l : List Rec) × (drop (before r j h i) (allRecords july2004 ss) ≡ movement (getD ss j noStatement .key) (at i .posting) ∷ l)
   movement-here i l =
-      let s = getD ss j nothing in (
+      let s = getD ss j noStatement in (
         addsThen (repeats (s .key) (at i .posting)) (at i .complements)
             (movesThen july2004 (s .key) (drop (suc i) ms) (closing (s .key) (s .new-date) (s .new-balance) ∷ rest r j h i .0)),
         rest r j h i .1 ∙ rw (drop-cons ms i noMovement l),
@@ -83,7 +83,7 @@ module _ {f : Form} {b : List ℕ} {ss : List Statement} (r : Reads july f b ss)
 -- the part of statement k
 module _ (f : Form) (b : List ℕ) (k : ℕ) {x n : ℕ} (e : At x n ≡ placeOf f b k) where
   abbrev s : Statement
-  s = getD (statementsOf july f b) (k - 1) nothing
+  s = getD (statementsOf july f b) (k - 1) noStatement
 
   abbrev cut : List ℕ
   cut = between x (x + n) b

@@ -10,11 +10,11 @@ use lib.ListN.{length, take, getD}
 use Rattle.zones.specs.Choice.{pick}
 use Rattle.zones.specs.Pieces.{flat}
 use Rattle.framing.specs.declared.Form.{Form}
-use Rattle.framing.specs.Files.{All, fileOf, endOf}
+use Rattle.framing.specs.Files.{All, fileOf, endOf, plain}
 use Rattle.grammar.specs.Record.{Rec}
 use Rattle.grammar.specs.Statements.{Statement, recordsOfMovements, recordsOf, allRecords}
 use Rattle.grammar.specs.Files.{pieces, canonical, layoutOf, Gives, Reads, Writable}
-use Rattle.grammar.specs.Parts.{nothing, partOf}
+use Rattle.grammar.specs.Parts.{noStatement, partOf}
 use Rattle.grammar.proofs.Seam.{piecesFor, bodies-pieces}
 use Rattle.grammar.proofs.Canonical.{pieces-canonical}
 use Rattle.grammar.proofs.Exact.{gives-reads, reads-pieces}
@@ -26,7 +26,7 @@ use Rattle.fields.specs.declared.Movement.{Movement}
 use Rattle.contents.specs.Heads.{headFrom}
 use Rattle.contents.specs.declared.Head.{Head}
 use Rattle.tables.specs.Tables.{rowsOf}
-use Rattle.writer.specs.Values.{statementFrom, textsOf, ReadAs, Carried, writtenOf, plain, recordsIn}
+use Rattle.writer.specs.Values.{statementFrom, textsOf, ReadAs, Carried, writtenOf, recordsIn}
 use Rattle.writer.specs.Test.{carries}
 use Rattle.writer.specs.Writing.{refusedWrite, writeAnswerOf}
 use Rattle.writer.proofs.Alls.{all-left}
@@ -82,7 +82,7 @@ module _ (h : Head) (rows : List Movement) (cs : List ℕ) where
 
 module _ {f : Form} {b : List ℕ} {ss : List Statement} (r : Reads july f b ss) (j : ℕ) (l : j < length ss) where
   abbrev t : Statement
-  t = getD ss j nothing
+  t = getD ss j noStatement
 
   abbrev cs : List ℕ
   cs = flat (textsOf (t .movements))

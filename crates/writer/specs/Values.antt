@@ -9,7 +9,7 @@ use Rattle.framing.specs.Files.{chunks, piecesOf}
 use Rattle.grammar.specs.Statements as values
 use Rattle.grammar.specs.Statements.{Statement, recordsOf}
 use Rattle.grammar.specs.Files.{Reads, Writable}
-use Rattle.grammar.specs.Parts.{nothing}
+use Rattle.grammar.specs.Parts.{noStatement}
 use Rattle.records.specs.July.{recordSize, july, july2004, encodeRecord}
 use Rattle.fields.specs.declared.Movement.{Movement}
 use Rattle.contents.specs.Heads.{headFrom}
@@ -56,9 +56,9 @@ pub record ReadAs (h : Head) (rows : List Movement) (cs : List ℕ) : Type 0 whe
   pub reads : Reads july form file statements
   pub number : ℕ
   pub inside : number < length statements
-  pub same-head : headFrom (getD statements number nothing) ≡ h
-  pub same-rows : rowsOf (getD statements number nothing .movements) ≡ rows
-  pub same-complements : flat (textsOf (getD statements number nothing .movements)) ≡ cs
+  pub same-head : headFrom (getD statements number noStatement) ≡ h
+  pub same-rows : rowsOf (getD statements number noStatement .movements) ≡ rows
+  pub same-complements : flat (textsOf (getD statements number noStatement .movements)) ≡ cs
 
 -- The complements are as many as the rows count, and some accepted file reads as the statement.
 pub record Carried (h : Head) (rows : List Movement) (cs : List ℕ) : Type 0 where
@@ -68,10 +68,6 @@ pub record Carried (h : Head) (rows : List Movement) (cs : List ℕ) : Type 0 wh
 -- its records, one after another, without line ends
 unfoldable pub writtenOf : Head → List Movement → List ℕ → List ℕ
 writtenOf h rows cs = flat (map encodeRecord (recordsOf july2004 (statementFrom h rows cs)))
-
--- a file without line ends
-abbrev pub plain : Form
-plain = record { «line_end» = 0 }
 
 -- the records of a file, one after another, without line ends
 unfoldable pub recordsIn : Form → List ℕ → List ℕ

@@ -3,9 +3,8 @@ use native.Mathlib.Omega.{arith}
 use native.Mathlib.Nat.{div-mul-le-self}
 use lib.ListN.{length}
 use borrow.Author.Needs.{needs}
-use Rattle.framing.specs.Files.{widthOf, piecesOf}
+use Rattle.framing.specs.Files.{widthOf, piecesOf, plain}
 use Rattle.records.specs.July.{recordSize, noDebitZero}
-use Rattle.bodies.specs.Bodies.{plain}
 use Rattle.bodies.proofs.Zeros.{Looking, found, goes-on, none-left}
 use Rattle.bodies.proofs.no_debit_zero.Statement.{statement}
 use Rattle.bodies.proofs.no_debit_zero.Tie as tie

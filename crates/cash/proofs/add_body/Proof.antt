@@ -2,10 +2,10 @@ use Prim.Native.Nat.{_-_}
 use native.Mathlib.Omega.{arith}
 use lib.ListN.{length}
 use mathlib.Core.Path.{ap, _∙_}
+use Rattle.framing.specs.Files.{plain}
 use Rattle.grammar.specs.Statements.{Statement}
 use Rattle.grammar.specs.Files.{Reads}
 use Rattle.records.specs.July.{july}
-use Rattle.bodies.specs.Bodies.{plain}
 use mathlib.Core.List.{_∷_, []}
 use Rattle.cash.proofs.Filling.{valued-back, Walked, walk-start, turn-bound, turned, later, walk-end}
 use Rattle.fields.specs.Rows.{valuedAtOf}

@@ -1,7 +1,8 @@
 use mathlib.Core.Path.{sym, ap, _∙_}
-use Rattle.packing.proofs.Packing.{answered-fits, refused-fits}
+use Rattle.packing.proofs.Packing.{answered-fits}
+use Rattle.statements.specs.Answers.{paperCheck}
 use Rattle.collector.specs.Packing.{packedCheck}
-use Rattle.collector.proofs.Packing.{counted-fits, refusal-fits}
+use Rattle.collector.proofs.Packing.{counted-fits, refused-packed}
 use Rattle.collector.proofs.Calls.{checked}
 use borrow.Author.Needs.{needs}
 use Rattle.collector.proofs.crownhazel_check.Statement.{statement}
@@ -23,10 +24,10 @@ refused-requires : tie.Need-refused-requires
 refused-requires c κs = search needs
 
 returns : tie.Need-returns
-returns c = let p = sym (c .before .before .statements .given .1) ∙ c .before .before .before .before .check .ensures .answer in record { answer = c .answered .ensures .answer ∙ answered-fits (counted-fits (checked (c .before .before .before .before .before .before .args .line-end) (c .before .before .before .before .before .before .args .file .now) p)) ∙ ap packedCheck p }
+returns c = let p = sym (c .before .before .statements .given .1) ∙ c .before .before .before .before .check .ensures .answer in record { answer = c .answered .ensures .answer ∙ answered-fits (counted-fits (checked (c .before .before .before .before .before .before .args .line-end) (c .before .before .before .before .before .before .args .file .now) p)) ∙ ap (λ a. packedCheck (paperCheck a)) p }
 
 returns-2 : tie.Need-returns-2
-returns-2 c = let p = sym (c .before .before .number .given .1) ∙ c .before .before .before .before .check .ensures .answer in record { answer = c .refused .ensures .answer ∙ refused-fits (refusal-fits (checked (c .before .before .before .before .before .before .args .line-end) (c .before .before .before .before .before .before .args .file .now) p)) ∙ ap packedCheck p }
+returns-2 c = let p = sym (c .before .before .number .given .1) ∙ c .before .before .before .before .check .ensures .answer in record { answer = c .refused .ensures .answer ∙ refused-packed (checked (c .before .before .before .before .before .before .args .line-end) (c .before .before .before .before .before .before .args .file .now) p) ∙ ap (λ a. packedCheck (paperCheck a)) p }
 
 pub crownhazel-check-spec : {M : Type 1} → statement M
 crownhazel-check-spec =

@@ -1,7 +1,8 @@
 use mathlib.Core.Path.{sym, ap, _∙_}
-use Rattle.packing.proofs.Packing.{answered-fits, refused-fits}
+use Rattle.packing.proofs.Packing.{answered-fits}
+use Rattle.journal.specs.Answers.{paperDelivery}
 use Rattle.collector.specs.Packing.{packedDelivery}
-use Rattle.collector.proofs.Packing.{told-fits, refusal-fits}
+use Rattle.collector.proofs.Packing.{told-fits, refused-packed}
 use Rattle.collector.proofs.Calls.{delivered}
 use borrow.Author.Needs.{needs}
 use Rattle.collector.proofs.crownhazel_deliver.Statement.{statement}
@@ -26,13 +27,13 @@ same-length : tie.Need-same-length
 same-length c = search needs
 
 returns : tie.Need-returns
-returns c = let p = sym (c .before .before .stored .given .1) ∙ c .before .before .before .before .before .before .deliver .ensures .answer in record { answer = c .answered .ensures .answer ∙ answered-fits (told-fits (delivered (c .before .before .before .before .before .before .before .before .before .before .args .journal .now) (c .before .before .before .before .before .before .before .before .before .before .args .line-end) (c .before .before .before .before .before .before .before .before .before .before .args .file .now) p)) ∙ ap packedDelivery p; content = c .before .before .before .before .before .before .deliver .ensures .content }
+returns c = let p = sym (c .before .before .stored .given .1) ∙ c .before .before .before .before .before .before .deliver .ensures .answer in record { answer = c .answered .ensures .answer ∙ answered-fits (told-fits (delivered (c .before .before .before .before .before .before .before .before .before .before .args .journal .now) (c .before .before .before .before .before .before .before .before .before .before .args .line-end) (c .before .before .before .before .before .before .before .before .before .before .args .file .now) p)) ∙ ap (λ a. packedDelivery (paperDelivery a)) p; content = c .before .before .before .before .before .before .deliver .ensures .content }
 
 same-length-2 : tie.Need-same-length-2
 same-length-2 c = search needs
 
 returns-2 : tie.Need-returns-2
-returns-2 c = let p = sym (c .before .before .number .given .1) ∙ c .before .before .before .before .before .before .deliver .ensures .answer in record { answer = c .refused .ensures .answer ∙ refused-fits (refusal-fits (delivered (c .before .before .before .before .before .before .before .before .before .before .args .journal .now) (c .before .before .before .before .before .before .before .before .before .before .args .line-end) (c .before .before .before .before .before .before .before .before .before .before .args .file .now) p)) ∙ ap packedDelivery p; content = c .before .before .before .before .before .before .deliver .ensures .content }
+returns-2 c = let p = sym (c .before .before .number .given .1) ∙ c .before .before .before .before .before .before .deliver .ensures .answer in record { answer = c .refused .ensures .answer ∙ refused-packed (delivered (c .before .before .before .before .before .before .before .before .before .before .args .journal .now) (c .before .before .before .before .before .before .before .before .before .before .args .line-end) (c .before .before .before .before .before .before .before .before .before .before .args .file .now) p) ∙ ap (λ a. packedDelivery (paperDelivery a)) p; content = c .before .before .before .before .before .before .deliver .ensures .content }
 
 pub crownhazel-deliver-spec : {M : Type 1} → statement M
 crownhazel-deliver-spec =

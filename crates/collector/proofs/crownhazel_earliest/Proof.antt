@@ -1,7 +1,8 @@
 use mathlib.Core.Path.{sym, ap, _∙_}
-use Rattle.packing.proofs.Packing.{answered-fits, refused-fits}
+use Rattle.packing.proofs.Packing.{answered-fits}
+use Rattle.contents.specs.Answers.{paperBeginning}
 use Rattle.collector.specs.Packing.{packedBeginning}
-use Rattle.collector.proofs.Packing.{day-fits, refusal-fits}
+use Rattle.collector.proofs.Packing.{day-fits, refused-packed}
 use Rattle.collector.proofs.Calls.{begun}
 use borrow.Author.Needs.{needs}
 use Rattle.collector.proofs.crownhazel_earliest.Statement.{statement}
@@ -29,10 +30,10 @@ refused-requires : tie.Need-refused-requires
 refused-requires c κs = search needs
 
 returns : tie.Need-returns
-returns c = let p = sym (c .before .before .day .given .1) ∙ c .before .before .before .before .earliest .ensures .answer in record { answer = c .answered .ensures .answer ∙ answered-fits (day-fits (begun (c .before .before .before .before .before .before .args .line-end) (c .before .before .before .before .before .before .args .file .now) p)) ∙ ap packedBeginning p }
+returns c = let p = sym (c .before .before .day .given .1) ∙ c .before .before .before .before .earliest .ensures .answer in record { answer = c .answered .ensures .answer ∙ answered-fits (day-fits (begun (c .before .before .before .before .before .before .args .line-end) (c .before .before .before .before .before .before .args .file .now) p)) ∙ ap (λ a. packedBeginning (paperBeginning a)) p }
 
 returns-2 : tie.Need-returns-2
-returns-2 c = let p = sym (c .before .before .number .given .1) ∙ c .before .before .before .before .earliest .ensures .answer in record { answer = c .refused .ensures .answer ∙ refused-fits (refusal-fits (begun (c .before .before .before .before .before .before .args .line-end) (c .before .before .before .before .before .before .args .file .now) p)) ∙ ap packedBeginning p }
+returns-2 c = let p = sym (c .before .before .number .given .1) ∙ c .before .before .before .before .earliest .ensures .answer in record { answer = c .refused .ensures .answer ∙ refused-packed (begun (c .before .before .before .before .before .before .args .line-end) (c .before .before .before .before .before .before .args .file .now) p) ∙ ap (λ a. packedBeginning (paperBeginning a)) p }
 
 pub crownhazel-earliest-spec : {M : Type 1} → statement M
 crownhazel-earliest-spec =

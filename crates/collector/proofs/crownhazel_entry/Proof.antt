@@ -1,8 +1,9 @@
 use native.Mathlib.Omega.{arith}
 use mathlib.Core.Path.{sym, ap, _∙_}
-use Rattle.packing.proofs.Packing.{answered-fits, refused-fits}
+use Rattle.packing.proofs.Packing.{answered-fits}
+use Rattle.readers.specs.Answers.{paperPlace}
 use Rattle.collector.specs.Packing.{packedEntry}
-use Rattle.collector.proofs.Packing.{body-fits, refusal-fits}
+use Rattle.collector.proofs.Packing.{body-fits, refused-packed}
 use Rattle.collector.proofs.Calls.{placed}
 use borrow.Author.Needs.{needs}
 use Rattle.collector.proofs.crownhazel_entry.Statement.{statement}
@@ -27,10 +28,10 @@ refused-requires : tie.Need-refused-requires
 refused-requires c κs = search needs
 
 returns : tie.Need-returns
-returns c = let p = sym (c .before .before .first .given .1) ∙ c .before .before .before .before .entry-place .ensures .answer in record { answer = c .answered .ensures .answer ∙ answered-fits (body-fits (placed (c .before .before .before .before .before .before .args .journal .now) (c .before .before .before .before .before .before .args .entry) p)) ∙ ap packedEntry p }
+returns c = let p = sym (c .before .before .first .given .1) ∙ c .before .before .before .before .entry-place .ensures .answer in record { answer = c .answered .ensures .answer ∙ answered-fits (body-fits (placed (c .before .before .before .before .before .before .args .journal .now) (c .before .before .before .before .before .before .args .entry) p)) ∙ ap (λ a. packedEntry (paperPlace a)) p }
 
 returns-2 : tie.Need-returns-2
-returns-2 c = let p = sym (c .before .before .number .given .1) ∙ c .before .before .before .before .entry-place .ensures .answer in record { answer = c .refused .ensures .answer ∙ refused-fits (refusal-fits (placed (c .before .before .before .before .before .before .args .journal .now) (c .before .before .before .before .before .before .args .entry) p)) ∙ ap packedEntry p }
+returns-2 c = let p = sym (c .before .before .number .given .1) ∙ c .before .before .before .before .entry-place .ensures .answer in record { answer = c .refused .ensures .answer ∙ refused-packed (placed (c .before .before .before .before .before .before .args .journal .now) (c .before .before .before .before .before .before .args .entry) p) ∙ ap (λ a. packedEntry (paperPlace a)) p }
 
 pub crownhazel-entry-spec : {M : Type 1} → statement M
 crownhazel-entry-spec =

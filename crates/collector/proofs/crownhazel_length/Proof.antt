@@ -1,7 +1,8 @@
 use mathlib.Core.Path.{sym, ap, _∙_}
-use Rattle.packing.proofs.Packing.{answered-fits, refused-fits}
+use Rattle.packing.proofs.Packing.{answered-fits}
+use Rattle.framing.specs.Answers.{paperFrame}
 use Rattle.collector.specs.Packing.{packedLength}
-use Rattle.collector.proofs.Packing.{records-fits, refusal-fits}
+use Rattle.collector.proofs.Packing.{records-fits, refused-packed}
 use Rattle.collector.proofs.Calls.{measured}
 use borrow.Author.Needs.{needs}
 use Rattle.collector.proofs.crownhazel_length.Statement.{statement}
@@ -23,10 +24,10 @@ refused-requires : tie.Need-refused-requires
 refused-requires c κs = search needs
 
 returns : tie.Need-returns
-returns c = let p = sym (c .before .before .count .given .1) ∙ c .before .before .before .before .cut-length .ensures .answer in record { answer = c .answered .ensures .answer ∙ answered-fits (records-fits (measured (c .before .before .before .before .before .args .line-end) (c .before .before .before .before .before .args .length) p)) ∙ ap packedLength p }
+returns c = let p = sym (c .before .before .count .given .1) ∙ c .before .before .before .before .cut-length .ensures .answer in record { answer = c .answered .ensures .answer ∙ answered-fits (records-fits (measured (c .before .before .before .before .before .args .line-end) (c .before .before .before .before .before .args .length) p)) ∙ ap (λ a. packedLength (paperFrame a)) p }
 
 returns-2 : tie.Need-returns-2
-returns-2 c = let p = sym (c .before .before .number .given .1) ∙ c .before .before .before .before .cut-length .ensures .answer in record { answer = c .refused .ensures .answer ∙ refused-fits (refusal-fits (measured (c .before .before .before .before .before .args .line-end) (c .before .before .before .before .before .args .length) p)) ∙ ap packedLength p }
+returns-2 c = let p = sym (c .before .before .number .given .1) ∙ c .before .before .before .before .cut-length .ensures .answer in record { answer = c .refused .ensures .answer ∙ refused-packed (measured (c .before .before .before .before .before .args .line-end) (c .before .before .before .before .before .args .length) p) ∙ ap (λ a. packedLength (paperFrame a)) p }
 
 pub crownhazel-length-spec : {M : Type 1} → statement M
 crownhazel-length-spec =

@@ -1,7 +1,8 @@
 use mathlib.Core.Path.{sym, ap, _∙_}
-use Rattle.packing.proofs.Packing.{answered-fits, refused-fits}
+use Rattle.packing.proofs.Packing.{answered-fits}
+use Rattle.journal_layout.specs.Answers.{paperOpening}
 use Rattle.collector.specs.Packing.{packedOpening}
-use Rattle.collector.proofs.Packing.{refusal-fits}
+use Rattle.collector.proofs.Packing.{refused-packed}
 use Rattle.collector.proofs.Calls.{opened}
 use borrow.Author.Needs.{needs}
 use Rattle.collector.proofs.crownhazel_open.Statement.{statement}
@@ -26,13 +27,13 @@ same-length : tie.Need-same-length
 same-length c = search needs
 
 returns : tie.Need-returns
-returns c = record { answer = c .answered .ensures .answer ∙ answered-fits (search needs) ∙ ap packedOpening (sym (c .before .enum-told .given .1) ∙ c .before .before .before .before .before .«open» .ensures .answer); content = c .before .before .before .before .before .«open» .ensures .content }
+returns c = record { answer = c .answered .ensures .answer ∙ answered-fits (search needs) ∙ ap (λ a. packedOpening (paperOpening a)) (sym (c .before .enum-told .given .1) ∙ c .before .before .before .before .before .«open» .ensures .answer); content = c .before .before .before .before .before .«open» .ensures .content }
 
 same-length-2 : tie.Need-same-length-2
 same-length-2 c = search needs
 
 returns-2 : tie.Need-returns-2
-returns-2 c = let p = sym (c .before .before .number .given .1) ∙ c .before .before .before .before .before .before .«open» .ensures .answer in record { answer = c .refused .ensures .answer ∙ refused-fits (refusal-fits (opened (c .before .before .before .before .before .before .before .before .before .args .journal .now) p)) ∙ ap packedOpening p; content = c .before .before .before .before .before .before .«open» .ensures .content }
+returns-2 c = let p = sym (c .before .before .number .given .1) ∙ c .before .before .before .before .before .before .«open» .ensures .answer in record { answer = c .refused .ensures .answer ∙ refused-packed (opened (c .before .before .before .before .before .before .before .before .before .args .journal .now) p) ∙ ap (λ a. packedOpening (paperOpening a)) p; content = c .before .before .before .before .before .before .«open» .ensures .content }
 
 pub crownhazel-open-spec : {M : Type 1} → statement M
 crownhazel-open-spec =

@@ -1,4 +1,5 @@
 use mathlib.Core.Path.{_∙_}
+use Rattle.journal.proofs.Paper.{delivers}
 use borrow.Author.Needs.{needs}
 use Rattle.journal.proofs.deliver.Statement.{statement}
 use Rattle.journal.proofs.deliver.Tie as tie
@@ -21,7 +22,7 @@ same-length c = search needs
 returns : tie.Need-returns
 returns c =
     let p = c .before .before .before .before .before .before .before .before .planned .ensures in
-    record { answer = p .answer; content = c .before .before .store-all .ensures (p .storable .list) (p .storable .reads) ∙ p .content }
+    delivers (p .answer) (c .before .before .store-all .ensures (p .storable .list) (p .storable .reads) ∙ p .content)
 
 pub deliver-spec : {M : Type 1} → statement M
 deliver-spec =
