@@ -5,8 +5,8 @@ use std::collections::{BTreeMap, BTreeSet};
 
 use crate::check::RECORD;
 use crate::delivery::{deliver, Delivered};
-use crate::journal::held;
-use crate::read::{earliest, Refusal};
+use crate::journal::{held, last_of};
+use crate::read::{statements, Refusal};
 
 /// Names with these ends belong to files that have not arrived whole.
 const UNFINISHED: [&str; 4] = [".part", ".tmp", ".filepart", "~"];
@@ -26,6 +26,8 @@ pub enum Fate {
     Refused(Refusal),
     /// It waits on, for what it has to follow or for room.
     Left(Refusal),
+    /// It waits on, for the first statement of an account, and is not delivered.
+    HeldBack,
 }
 
 /// An account that the night began: its key as in an entry, and its first old balance date.
@@ -45,17 +47,55 @@ pub struct Night {
     pub ignored: BTreeSet<String>,
     /// In order of first arrival.
     pub begun: Vec<Begun>,
-    /// How many statements each round stored.
-    pub rounds: Vec<u64>,
+    /// How many files each round got done.
+    pub rounds: Vec<usize>,
 }
 
-/// Delivers what waits to a sound journal, round after round while that stores something.
+/// A file that is taken, while it waits.
+struct Waiting<'a> {
+    name: &'a str,
+    bytes: &'a [u8],
+    line_end: u64,
+    /// The earliest old balance date of each account in it, by key; none for a refused file.
+    earliest: BTreeMap<Vec<u8>, u32>,
+}
+
+impl<'a> Waiting<'a> {
+    fn new(file: &'a Incoming) -> Waiting<'a> {
+        let line_end = found_line_end(&file.bytes);
+        let mut earliest = BTreeMap::new();
+        for statement in statements(line_end, &file.bytes).unwrap_or_default() {
+            let date = statement.head.old_date;
+            let first = earliest.entry(statement.head.key.bytes()).or_insert(date);
+            *first = date.min(*first);
+        }
+        Waiting {
+            name: &file.name,
+            bytes: &file.bytes,
+            line_end,
+            earliest,
+        }
+    }
+
+    /// The earliest of all its dates, 0 where it has none.
+    fn date(&self) -> u32 {
+        self.earliest.values().copied().min().unwrap_or(0)
+    }
+
+    /// Whether it has an earlier statement of that account than one of that date.
+    fn is_before(&self, key: &[u8], date: u32) -> bool {
+        self.earliest.get(key).map_or(false, |&first| first < date)
+    }
+}
+
+/// Delivers what waits to a sound journal, round after round while that gets a file done.
 pub fn night(journal: &[u8], incoming: &[Incoming]) -> Night {
     let (taken, ignored): (Vec<&Incoming>, Vec<&Incoming>) =
         incoming.iter().partition(|file| is_taken(&file.name));
     let mut after = journal.to_vec();
     let mut fates = BTreeMap::new();
-    let mut waiting = in_order(taken);
+    let mut waiting: Vec<Waiting> = taken.into_iter().map(Waiting::new).collect();
+    waiting.sort_by_key(|file| (file.date(), file.name.as_bytes()));
     let mut rounds = Vec::new();
     while !waiting.is_empty() && rounds.last() != Some(&0) {
         rounds.push(round(&mut after, &mut waiting, &mut fates));
@@ -87,32 +127,45 @@ pub fn found_line_end(file: &[u8]) -> u64 {
     }
 }
 
-/// By the earliest old balance date, 0 for a refused file; then by name.
-fn in_order(mut files: Vec<&Incoming>) -> Vec<&Incoming> {
-    files.sort_by_cached_key(|file| {
-        let date = earliest(found_line_end(&file.bytes), &file.bytes);
-        (date.unwrap_or(0), file.name.as_bytes())
-    });
-    files
-}
-
-/// Delivers each file that waits, in order, and keeps those that wait on. Gives how many statements
-/// were stored.
+/// Looks at each file that waits, in order, and keeps those that wait on. Gives how many are done.
 fn round(
     journal: &mut [u8],
-    waiting: &mut Vec<&Incoming>,
+    waiting: &mut Vec<Waiting>,
     fates: &mut BTreeMap<String, Fate>,
-) -> u64 {
-    let mut stored = 0;
-    waiting.retain(|file| {
-        let fate = fate(deliver(journal, found_line_end(&file.bytes), &file.bytes));
-        if let Fate::Done(delivered) = fate {
-            stored += delivered.stored;
+) -> usize {
+    let mut done = 0;
+    let mut place = 0;
+    while place < waiting.len() {
+        let file = &waiting[place];
+        let fate = if is_held_back(file, waiting, journal) {
+            Fate::HeldBack
+        } else {
+            fate(deliver(journal, file.line_end, file.bytes))
+        };
+        fates.insert(file.name.to_string(), fate);
+        match fate {
+            Fate::Left(_) | Fate::HeldBack => place += 1,
+            Fate::Done(_) | Fate::Refused(_) => {
+                done += usize::from(matches!(fate, Fate::Done(_)));
+                waiting.remove(place);
+            }
         }
-        fates.insert(file.name.clone(), fate);
-        matches!(fate, Fate::Left(_))
-    });
-    stored
+    }
+    done
+}
+
+/// Whether an account of the file has an earlier statement in another that waits, and none in the
+/// journal. The file itself may stand among those that wait.
+fn is_held_back(file: &Waiting, waiting: &[Waiting], journal: &[u8]) -> bool {
+    let later = file
+        .earliest
+        .iter()
+        .filter(|(key, &date)| waiting.iter().any(|other| other.is_before(key, date)));
+    let keys: Vec<&Vec<u8>> = later.map(|(key, _)| key).collect();
+    !keys.is_empty() && {
+        let list = held(journal).expect("the journal of a night is sound");
+        keys.iter().any(|key| last_of(&list, key).is_none())
+    }
 }
 
 fn fate(answer: Result<Delivered, Refusal>) -> Fate {

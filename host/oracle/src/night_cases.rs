@@ -1,11 +1,12 @@
 //! Seeded generators of nights: a journal, files that wait, and what is known of both by how they
 //! were made.
 //!
-//! What becomes of the files is left to `night`. What a night knows of an account without it is the
-//! chain of statements that the journal holds in the end.
+//! What becomes of the files is left to `night`. What is known of an account without it is the chain
+//! of statements that the journal holds in the end.
 
 mod again;
 mod beside;
+mod ends;
 mod months;
 mod names;
 mod plan;
@@ -13,7 +14,7 @@ mod room;
 mod spoilt;
 mod stories;
 
-pub use plan::Chain;
+pub use plan::{Chain, Known};
 
 use std::collections::BTreeSet;
 
@@ -27,8 +28,10 @@ pub struct NightCase {
     pub journal: Vec<u8>,
     pub incoming: Vec<Incoming>,
     pub tries: BTreeSet<&'static str>,
-    /// The accounts of which it is known what the journal holds of them in the end.
-    pub promised: Vec<Chain>,
+    /// The accounts of the night's stories.
+    pub chains: Vec<Chain>,
+    /// Whether there is room for all that comes. Else accounts may end earlier than is said.
+    pub enough: bool,
 }
 
 /// The night of that seed and index.

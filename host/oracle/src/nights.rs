@@ -51,12 +51,17 @@ pub fn expected(night: &Night) -> [(&'static str, String); 7] {
             "refused",
             names(night, |fate| matches!(fate, Fate::Refused(_))),
         ),
-        ("left", names(night, |fate| matches!(fate, Fate::Left(_)))),
+        ("left", names(night, is_left)),
         ("ignored", lines(night.ignored.iter().cloned())),
         ("begun", lines(night.begun.iter().map(begun_line))),
         ("totals", format!("{}\n", totals(night))),
         ("status", format!("{}\n", status(night))),
     ]
+}
+
+/// Whether the file waits on after the night.
+fn is_left(fate: &Fate) -> bool {
+    matches!(fate, Fate::Left(_) | Fate::HeldBack)
 }
 
 /// A line each, with LF after it.
@@ -96,7 +101,7 @@ fn totals(night: &Night) -> String {
                 held += delivered.held;
             }
             Fate::Refused(_) => refused += 1,
-            Fate::Left(_) => left += 1,
+            Fate::Left(_) | Fate::HeldBack => left += 1,
         }
     }
     format!("done {done}, refused {refused}, left {left}, stored {stored}, held {held}")
@@ -107,7 +112,7 @@ fn status(night: &Night) -> u32 {
     let worst = night.fates.values().map(|fate| match fate {
         Fate::Done(_) => 0,
         Fate::Refused(_) => 1,
-        Fate::Left(_) => 4,
+        Fate::Left(_) | Fate::HeldBack => 4,
     });
     worst.max().unwrap_or(0)
 }

@@ -33,6 +33,21 @@ pub struct Key<'a> {
     pub account: &'a [u8],
 }
 
+impl Key<'_> {
+    /// The 25 bytes with which a journal's entry begins.
+    pub fn bytes(&self) -> Vec<u8> {
+        let decimals = [self.decimals];
+        let zones = [
+            self.bank,
+            self.branch,
+            self.currency,
+            &decimals,
+            self.account,
+        ];
+        zones.concat()
+    }
+}
+
 /// The head of a statement. Dates are numbers YYYYMMDD here and below.
 #[derive(Clone, Copy, Debug, PartialEq, Eq)]
 pub struct Head<'a> {

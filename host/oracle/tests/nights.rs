@@ -9,9 +9,10 @@ use std::collections::{BTreeMap, BTreeSet};
 use std::path::Path;
 
 use oracle::journal::is_sound;
-use oracle::night::{night, Fate, Night};
-use oracle::night_cases::{night_case, Chain, NightCase};
+use oracle::night::{found_line_end, night, Fate, Incoming, Night};
+use oracle::night_cases::{night_case, Chain, Known, NightCase};
 use oracle::nights::{expected, nights};
+use oracle::read::statements;
 use runs::{mistaken, oracle, path};
 use zeros::signed;
 
@@ -20,10 +21,10 @@ const NIGHTS: usize = 300;
 const TABLE: usize = 7_680;
 
 /// What a night may try, and how often it does at least.
-const KINDS: [(&str, usize); 35] = [
+const KINDS: [(&str, usize); 39] = [
     ("accounts-together", 60),
     ("almost-ignored-name", 60),
-    ("begins-late", 15),
+    ("changed-month", 10),
     ("corrected", 20),
     ("cut-alone", 20),
     ("cut-and-whole", 60),
@@ -35,8 +36,12 @@ const KINDS: [(&str, usize); 35] = [
     ("empty-file", 20),
     ("empty-night", 15),
     ("entries-full", 20),
+    ("first-month-behind", 30),
+    ("first-month-stuck", 10),
     ("first-night", 20),
+    ("gap-inside", 15),
     ("held-though-full", 40),
+    ("hold-each-other", 10),
     ("ignored-name", 60),
     ("known-account", 60),
     ("lines-full", 20),
@@ -82,36 +87,123 @@ fn held(journal: &[u8]) -> Vec<(&[u8], &[u8])> {
     held.collect()
 }
 
-/// The records of a chain as they are stored, statement by statement.
+/// What a chain holds in the end, given room: the records of each statement as they are stored.
 fn stored(chain: &Chain) -> Vec<Vec<u8>> {
-    let bodies = chain.statements.iter().map(|one| one.records.concat());
+    let statements = &chain.statements[chain.end.clone()];
+    let bodies = statements.iter().map(|one| one.records.concat());
     bodies.map(|body| signed(0, &body, b'{')).collect()
 }
 
-/// The whole chain of each account whose files all come, once each and in order; and the account
-/// is said to have begun with its first statement, if nothing of it was held before.
+/// What a journal holds of a chain's account.
+fn bodies(journal: &[u8], chain: &Chain) -> Vec<Vec<u8>> {
+    let key = chain.key.bytes();
+    let entries = held(journal).into_iter();
+    let bodies = entries.filter(|(other, _)| *other == key);
+    bodies.map(|(_, body)| body.to_vec()).collect()
+}
+
+/// What is known of each account is held, once each and in order, and nothing else of it. Without
+/// room for all it is the beginning of that. Nothing is known of accounts alone that a file has
+/// another statement of.
 #[test]
-fn whole_chains_are_held() {
-    let (mut chains, mut statements, mut in_later_rounds) = (0, 0, 0);
+fn chains_are_held() {
+    let (mut whole, mut parts, mut unknown) = ([0; 2], 0, 0);
     for (case, night) in all_nights() {
-        for chain in &case.promised {
-            let key = chain.key.bytes();
-            let entries = held(&night.journal).into_iter();
-            let bodies = entries.filter(|(other, _)| *other == key);
-            let bodies: Vec<Vec<u8>> = bodies.map(|(_, body)| body.to_vec()).collect();
-            assert!(bodies == stored(chain), "{:?}", case.tries);
-            let first = chain.statements.first().filter(|_| chain.held == 0);
-            let date = first.map(|first| oracle::record::date_number(first.old.day));
-            let begun = night.begun.iter().find(|begun| begun.key == key);
-            assert_eq!(begun.map(|begun| u64::from(begun.date)), date);
-            chains += 1;
-            statements += chain.statements.len() - chain.held;
+        for chain in &case.chains {
+            let (found, known) = (bodies(&night.journal, chain), stored(chain));
+            match chain.known {
+                Known::Not => {
+                    assert!(case.tries.contains("changed-month"));
+                    unknown += 1;
+                    continue;
+                }
+                Known::ByStory => whole[0] += usize::from(case.enough),
+                Known::ByFiles => whole[1] += usize::from(case.enough),
+            }
+            assert!(found.len() >= chain.held && known.starts_with(&found));
+            assert!(!case.enough || found == known, "{:?}", case.tries);
+            parts += usize::from(found.len() < known.len());
+        }
+    }
+    assert!(whole[0] > 300 && whole[1] > 60, "{whole:?}");
+    assert!(parts > 60, "{parts}");
+    assert!(unknown < 50, "{unknown}");
+}
+
+/// How the chains end: whole, with less than comes, or not begun; in the first round or later.
+#[test]
+fn chains_end_in_every_way() {
+    let (mut all, mut some, mut none, mut in_later_rounds) = (0, 0, 0, 0);
+    for (case, night) in all_nights().filter(|(case, _)| case.enough) {
+        for chain in &case.chains {
+            match chain.end.len() {
+                0 => none += 1,
+                end if end < chain.statements.len() => some += 1,
+                _ => all += 1,
+            }
             in_later_rounds += usize::from(night.rounds.get(1) > Some(&0));
         }
     }
-    assert!(chains > 250, "{chains}");
-    assert!(statements > 600, "{statements}");
-    assert!(in_later_rounds > 50, "{in_later_rounds}");
+    assert!(all > 250 && some > 40 && none > 40, "{all} {some} {none}");
+    assert!(in_later_rounds > 100, "{in_later_rounds}");
+}
+
+/// The earliest old balance date of each account in the files that are taken and accepted.
+fn earliest(case: &NightCase, night: &Night) -> BTreeMap<Vec<u8>, u32> {
+    let mut dates = BTreeMap::new();
+    let taken = |file: &&Incoming| !night.ignored.contains(&file.name);
+    for file in case.incoming.iter().filter(taken) {
+        let line_end = found_line_end(&file.bytes);
+        for statement in statements(line_end, &file.bytes).unwrap_or_default() {
+            let date = statement.head.old_date;
+            let first = dates.entry(statement.head.key.bytes()).or_insert(date);
+            *first = date.min(*first);
+        }
+    }
+    dates
+}
+
+/// An account of which nothing was held begins with the earliest date that waits, or not at all.
+/// This is so of every account, whatever is known of it and however little room there is.
+#[test]
+fn accounts_begin_with_their_earliest() {
+    let (mut begin, mut wait) = (0, 0);
+    for (case, night) in all_nights() {
+        let held_keys = |journal: &[u8]| -> BTreeSet<Vec<u8>> {
+            let keys = held(journal).into_iter();
+            keys.map(|(key, _)| key.to_vec()).collect()
+        };
+        let (before, after) = (held_keys(&case.journal), held_keys(&night.journal));
+        let mut begun = BTreeMap::new();
+        for (key, date) in earliest(&case, &night) {
+            if after.contains(&key) && !before.contains(&key) {
+                begun.insert(key, date);
+            } else {
+                wait += usize::from(!before.contains(&key));
+            }
+        }
+        begin += begun.len();
+        let said = night.begun.iter().map(|one| (one.key.clone(), one.date));
+        assert_eq!(said.collect::<BTreeMap<_, _>>(), begun);
+    }
+    assert!(begin > 200 && wait > 80, "{begin} {wait}");
+}
+
+/// With what is left alone, one more night changes nothing, and each file is left as it was.
+#[test]
+fn what_is_left_stays() {
+    for (case, before) in all_nights() {
+        let mut left = case.incoming;
+        let waits = |fate: &Fate| matches!(fate, Fate::Left(_) | Fate::HeldBack);
+        left.retain(|file| before.fates.get(&file.name).map_or(false, waits));
+        let after = night(&before.journal, &left);
+        assert!(after.journal == before.journal);
+        assert!(after.fates.len() == left.len() && after.rounds.iter().all(|&done| done == 0));
+        assert!(after
+            .fates
+            .iter()
+            .all(|(name, fate)| before.fates[name] == *fate));
+    }
 }
 
 /// The journal is sound before and after, and keeps what it held, in its place.
@@ -176,7 +268,7 @@ fn totals_and_status() {
         let stored = held(&night.journal).len() - held(&case.journal).len();
         let begins = format!("done {done}, refused {refused}, left {left}, stored {stored}, held ");
         assert!(lists["totals"][0].starts_with(&begins));
-        assert_eq!(night.rounds.iter().sum::<u64>(), stored as u64);
+        assert_eq!(night.rounds.iter().sum::<usize>(), done);
         let status = match (left, refused) {
             (0, 0) => "0",
             (0, _) => "1",
@@ -202,12 +294,12 @@ fn every_kind_occurs() {
     }
 }
 
-/// Every refusal of a file occurs but 1, and each that leaves it; files that are held, rounds
-/// after the first, accounts that begin.
+/// Every refusal of a file occurs but 1, and each that leaves it; files that are held back, files
+/// that are held, rounds after the first, accounts that begin.
 #[test]
 fn every_end_occurs() {
     let mut counts: BTreeMap<u32, usize> = BTreeMap::new();
-    let (mut held, mut mixed, mut later_rounds, mut begun) = (0, 0, [0; 2], 0);
+    let (mut held, mut mixed, mut held_back, mut later_rounds, mut begun) = (0, 0, 0, [0; 2], 0);
     for (_, night) in all_nights() {
         for fate in night.fates.values() {
             match fate {
@@ -216,6 +308,7 @@ fn every_end_occurs() {
                 Fate::Refused(refusal) | Fate::Left(refusal) => {
                     *counts.entry(refusal.number).or_default() += 1;
                 }
+                Fate::HeldBack => held_back += 1,
             }
         }
         for (later, count) in later_rounds.iter_mut().enumerate() {
@@ -227,6 +320,7 @@ fn every_end_occurs() {
     assert_eq!(numbers, (2..=15).chain(22..=24).collect::<Vec<_>>());
     assert!(counts.values().all(|&count| count >= 10), "{counts:?}");
     assert!(held > 150 && mixed > 30, "{held} {mixed}");
+    assert!(held_back > 60, "{held_back}");
     assert!(
         later_rounds[0] > 40 && later_rounds[1] > 10,
         "{later_rounds:?}"

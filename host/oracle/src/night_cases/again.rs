@@ -36,16 +36,15 @@ fn other_line_end(rng: &mut Rng, plan: &mut Plan) {
     }
 }
 
-/// Some months of an account in one file, whichever files they stand in else.
+/// Some months of an account that are stored anyway in one file, whichever files they stand in else.
 fn overlap(rng: &mut Rng, plan: &mut Plan) {
-    let long =
-        |index: &usize| plan.chains[*index].promised && plan.chains[*index].statements.len() > 1;
+    let long = |index: &usize| plan.chains[*index].end.len() > 1;
     let places: Vec<usize> = (0..plan.chains.len()).filter(long).collect();
     if places.is_empty() {
         return;
     }
     let chain = &plan.chains[rng.pick(&places)];
-    let all = &chain.statements;
+    let all = &chain.statements[chain.end.clone()];
     let first = rng.index(all.len() - 1);
     let end = first + 2 + rng.index(all.len() - first - 1);
     let story = Some(chain.story);

@@ -19,7 +19,8 @@ pub fn add(rng: &mut Rng, plan: &mut Plan) {
     }
 }
 
-/// Another statement of a month that is held: it is not held itself, and it does not follow.
+/// Another statement of a month that is held: it is not held itself, and it does not follow. So the
+/// chain has nothing of it.
 fn corrected(rng: &mut Rng, plan: &mut Plan) {
     let held = |index: &usize| plan.chains[*index].held > 0;
     let places: Vec<usize> = (0..plan.chains.len()).filter(held).collect();
@@ -31,7 +32,8 @@ fn corrected(rng: &mut Rng, plan: &mut Plan) {
     let other = relabelled(rng, statement);
     // A statement without movements has no label.
     if other.records != statement.records {
-        plan.send(rng, vec![other], None);
+        let bytes = file(rng.below(3), &[&other]);
+        plan.send_bytes(rng, bytes);
         plan.tries("corrected");
     }
 }
@@ -54,10 +56,10 @@ fn ignored(rng: &mut Rng, plan: &mut Plan) {
     plan.tries("ignored-name");
 }
 
-/// A file of the month that follows the last one of an account.
+/// A file of the month that follows the last one that is held of an account in the end.
 fn month_after(rng: &mut Rng, plan: &Plan) -> Vec<u8> {
     let chain = &plan.chains[rng.index(plan.chains.len())];
-    match chain.statements.last() {
+    match chain.statements[chain.end.clone()].last() {
         Some(last) => {
             let next = next_month(rng, &chain.key, last.new, last.new.day + 30, false);
             file(rng.below(3), &[&next])

@@ -10,7 +10,19 @@ use crate::rng::Rng;
 use crate::series_cases::accounts::{apart, file, ZONES};
 use crate::valid::{key, Key, Statement};
 
-/// An account's statements in a row: the first are held before the night, the others come in it.
+/// Whence it is known how an account ends.
+#[derive(Clone, Copy, Debug, PartialEq, Eq, PartialOrd, Ord)]
+pub enum Known {
+    /// Its story tells.
+    ByStory,
+    /// A file of its story is cut. How it ends follows from the files.
+    ByFiles,
+    /// A file has another statement in the place of one of its own. Names may decide.
+    Not,
+}
+
+/// An account's statements in a row: the first are held before the night, of the others most come
+/// in it.
 pub struct Chain {
     pub key: Key,
     pub statements: Vec<Statement>,
@@ -20,8 +32,9 @@ pub struct Chain {
     pub from: usize,
     /// The story it belongs to. Accounts of one story stand in the same files.
     pub story: usize,
-    /// Whether the journal holds just these in the end, given room.
-    pub promised: bool,
+    /// Those that the journal holds in the end, given room, as far as it is known.
+    pub end: Range<usize>,
+    pub known: Known,
 }
 
 /// A file that waits, and the statements that it is made of.
@@ -107,12 +120,13 @@ impl Plan {
             self.tries("turn-of-century");
         }
         self.chains.push(Chain {
+            end: 0..statements.len(),
             statements,
             key,
             held,
             from: range.start,
             story: self.stories,
-            promised: true,
+            known: Known::ByStory,
         });
         self.chains.len() - 1
     }
@@ -133,16 +147,23 @@ impl Plan {
         }
     }
 
+    /// The journal holds so many of an account's statements in the end.
+    pub fn ends_after(&mut self, chain: usize, statements: usize) {
+        self.chains[chain].end = 0..statements;
+    }
+
     /// The statement of an account for a month.
     pub fn month(&self, chain: usize, month: usize) -> Statement {
         let chain = &self.chains[chain];
         chain.statements[month - chain.from].clone()
     }
 
-    /// From now on it is not known what the journal holds of the accounts of a story.
-    pub fn spoil(&mut self, story: usize) {
-        for chain in self.chains.iter_mut().filter(|one| one.story == story) {
-            chain.promised = false;
+    /// From now on no more than that is known of the accounts of a story.
+    pub fn know_less(&mut self, story: Option<usize>, known: Known) {
+        for chain in &mut self.chains {
+            if Some(chain.story) == story {
+                chain.known = known.max(chain.known);
+            }
         }
     }
 

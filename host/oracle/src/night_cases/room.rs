@@ -1,6 +1,7 @@
 //! The journal before the night, and how much room is left in it.
 
-use super::plan::{Chain, Plan};
+use super::ends::ends;
+use super::plan::{Chain, Known, Plan};
 use super::NightCase;
 use crate::cash_cases::statements::journal_of;
 use crate::check::RECORD;
@@ -26,6 +27,7 @@ pub fn end(rng: &mut Rng, mut plan: Plan) -> NightCase {
         1 => Room::FewLines,
         _ => Room::Enough,
     };
+    see_ends(&mut plan);
     let coming = coming(&plan.chains);
     let room = if coming.is_empty() {
         Room::Enough
@@ -50,6 +52,15 @@ pub fn end(rng: &mut Rng, mut plan: Plan) -> NightCase {
     finish(plan, room, journal_of(&list, spare), list.len())
 }
 
+/// How each account ends. What its story tells is what follows from the files.
+fn see_ends(plan: &mut Plan) {
+    let ends = ends(&plan.chains, &plan.letters);
+    for (chain, end) in plan.chains.iter_mut().zip(ends) {
+        assert!(chain.known != Known::ByStory || chain.end == end);
+        chain.end = end;
+    }
+}
+
 /// Less than what is needed, seldom nothing.
 fn too_few(rng: &mut Rng, needed: usize) -> usize {
     rng.index(needed).max(rng.index(needed))
@@ -59,7 +70,7 @@ fn too_few(rng: &mut Rng, needed: usize) -> usize {
 fn coming(chains: &[Chain]) -> Vec<Statement> {
     let coming = chains
         .iter()
-        .flat_map(|chain| &chain.statements[chain.held..]);
+        .flat_map(|chain| &chain.statements[chain.end.clone()][chain.held..]);
     coming.cloned().collect()
 }
 
@@ -127,7 +138,6 @@ fn interleaved(rng: &mut Rng, mut rows: Vec<&[Statement]>) -> Vec<Statement> {
     }
 }
 
-/// What is promised holds only where there is room for all.
 fn finish(plan: Plan, room: Room, journal: Vec<u8>, held: usize) -> NightCase {
     let heads: usize = plan.letters.iter().map(|letter| heads(&letter.bytes)).sum();
     let enough = room == Room::Enough && held + heads <= ENTRIES;
@@ -135,15 +145,12 @@ fn finish(plan: Plan, room: Room, journal: Vec<u8>, held: usize) -> NightCase {
         name: letter.name,
         bytes: letter.bytes,
     });
-    let promised = plan
-        .chains
-        .into_iter()
-        .filter(|chain| enough && chain.promised);
     NightCase {
         journal,
         incoming: incoming.collect(),
         tries: plan.tries,
-        promised: promised.collect(),
+        chains: plan.chains,
+        enough,
     }
 }
 

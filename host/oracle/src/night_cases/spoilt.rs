@@ -1,9 +1,10 @@
 //! Files that were cut on their way, and damaged ones.
 
 use super::months::Months;
-use super::plan::{Letter, Plan};
-use crate::check::Answer;
+use super::plan::{Known, Letter, Plan};
+use crate::check::{check, Answer};
 use crate::damage::{pick, Case, Recipe};
+use crate::night::found_line_end;
 use crate::record::{line_end, RECORD};
 use crate::rng::Rng;
 use crate::valid::{key, Draft, Statement};
@@ -20,30 +21,28 @@ pub fn add_cut(rng: &mut Rng, plan: &mut Plan) {
         None => return,
     };
     let letter = plan.letters[index].clone();
-    let (what, length) = place_to_cut(rng, &letter);
-    let bytes = letter.bytes[..length].to_vec();
-    plan.tries(what);
-    plan.send_bytes(rng, bytes);
+    send_cut(rng, plan, &letter);
     if rng.one_in(4) {
         plan.tries("cut-alone");
         plan.letters.remove(index);
-        letter.story.into_iter().for_each(|story| plan.spoil(story));
+        plan.know_less(letter.story, Known::ByFiles);
     } else {
         plan.tries("cut-and-whole");
     }
 }
 
-/// How many bytes are left of a file, and what the cut goes through.
-fn place_to_cut(rng: &mut Rng, letter: &Letter) -> (&'static str, usize) {
+/// The first part of a file. Where the cut goes through a statement it is refused.
+fn send_cut(rng: &mut Rng, plan: &mut Plan, letter: &Letter) {
     let line = RECORD + letter.line_end as usize;
     let records = letter.bytes.len() / line;
     let between = letter.statements.len() > 1;
-    match rng.below(4) {
+    let (what, length) = match rng.below(4) {
         0 | 1 if between => {
             let statements = 1 + rng.index(letter.statements.len() - 1);
-            let first = &letter.statements[..statements];
-            let records: usize = first.iter().map(|one| one.records.len()).sum();
-            ("cut-between-statements", line * records)
+            let first = letter.statements[..statements].to_vec();
+            plan.send_with(rng, letter.line_end, first, None);
+            plan.know_less(letter.story, Known::ByFiles);
+            return plan.tries("cut-between-statements");
         }
         0 | 2 => (
             "cut-between-records",
@@ -53,7 +52,9 @@ fn place_to_cut(rng: &mut Rng, letter: &Letter) -> (&'static str, usize) {
             "cut-inside-a-record",
             line * rng.index(records) + 1 + rng.index(line - 1),
         ),
-    }
+    };
+    plan.send_bytes(rng, letter.bytes[..length].to_vec());
+    plan.tries(what);
 }
 
 /// A number of records after which a statement is open.
@@ -75,9 +76,7 @@ pub fn add_damaged(rng: &mut Rng, plan: &mut Plan, list: &[Recipe]) {
             let draft = draft_of(letter.line_end, &letter.statements);
             let damaged = (0..TRIES).find_map(|_| pick(rng, list).damage(rng, draft.clone()));
             if let Some(case) = damaged {
-                plan.send_bytes(rng, case.bytes);
-                plan.tries("damaged-month");
-                letter.story.into_iter().for_each(|story| plan.spoil(story));
+                send_damaged_month(rng, plan, case.bytes, letter.story);
             }
         }
         _ if rng.one_in(10) => {
@@ -92,6 +91,19 @@ pub fn add_damaged(rng: &mut Rng, plan: &mut Plan, list: &[Recipe]) {
             }
         }
     }
+}
+
+/// A damaged file of the night beside the whole one. Some are accepted all the same, with statements
+/// that nothing is known of.
+fn send_damaged_month(rng: &mut Rng, plan: &mut Plan, bytes: Vec<u8>, story: Option<usize>) {
+    match check(found_line_end(&bytes), &bytes) {
+        Answer::Refused { .. } => plan.tries("damaged-month"),
+        Answer::Accepted { .. } => {
+            plan.know_less(story, Known::Not);
+            plan.tries("changed-month");
+        }
+    }
+    plan.send_bytes(rng, bytes);
 }
 
 /// A damaged file of some account. Half of them are of a number that comes in turn with the others,

@@ -8,40 +8,52 @@ use crate::write::shuffle;
 /// Makes the accounts of a story and sends their files.
 type Make = fn(&mut Rng, &mut Plan);
 
-/// The stories and how many accounts they have at most. The commoner ones stand here more than once.
-const STORIES: [(Make, usize); 13] = [
-    (known, 1),
-    (known, 1),
-    (known, 1),
-    (new, 1),
-    (new, 1),
-    (together, 3),
-    (together, 3),
-    (astride, 3),
-    (astride, 3),
-    (astride, 3),
-    (late, 2),
-    (missing, 1),
-    (backwards, 1),
+/// The stories, how many accounts they have at most, and how common they are.
+const STORIES: [(Make, usize, usize); 10] = [
+    (known, 1, 6),
+    (new, 1, 4),
+    (together, 3, 6),
+    (astride, 3, 6),
+    (behind, 3, 3),
+    (stuck, 2, 2),
+    (crossed, 2, 1),
+    (gap_inside, 1, 1),
+    (missing, 1, 3),
+    (backwards, 1, 3),
 ];
 
 /// Those of a first night.
-const FIRST_STORIES: [(Make, usize); 4] = [(new, 1), (new, 1), (together, 3), (backwards, 1)];
+const FIRST_STORIES: [(Make, usize, usize); 6] = [
+    (new, 1, 5),
+    (together, 3, 6),
+    (behind, 3, 3),
+    (crossed, 2, 1),
+    (gap_inside, 1, 1),
+    (backwards, 1, 3),
+];
 
 /// A night has one to three stories, of four accounts at most.
 pub fn add(rng: &mut Rng, plan: &mut Plan) {
-    let stories: &[(Make, usize)] = if plan.first_night {
-        &FIRST_STORIES
-    } else {
-        &STORIES
-    };
     for _ in 0..1 + rng.index(3) {
-        let (make, accounts) = rng.pick(stories);
+        let (make, accounts) = some_story(rng, plan.first_night);
         if plan.chains.len() + accounts <= 4 {
             plan.stories += 1;
             make(rng, plan);
         }
     }
+}
+
+/// A story and how many accounts it has at most.
+fn some_story(rng: &mut Rng, first_night: bool) -> (Make, usize) {
+    let stories: &[(Make, usize, usize)] = if first_night {
+        &FIRST_STORIES
+    } else {
+        &STORIES
+    };
+    let list = stories
+        .iter()
+        .flat_map(|&(make, accounts, times)| vec![(make, accounts); times]);
+    rng.pick(&list.collect::<Vec<_>>())
 }
 
 /// An account of which some months are held: the next ones come.
@@ -116,37 +128,99 @@ fn together(rng: &mut Rng, plan: &mut Plan) {
 fn astride(rng: &mut Rng, plan: &mut Plan) {
     let files = 2 + rng.index(2);
     plan.tries(["second-round", "third-round"][files - 2]);
+    in_steps(rng, plan, files, true);
+}
+
+/// The same with other accounts of which nothing is held: the first month of each is the one that
+/// comes in the later file.
+fn behind(rng: &mut Rng, plan: &mut Plan) {
+    plan.tries("first-month-behind");
+    let files = 2 + rng.index(2);
+    in_steps(rng, plan, files, false);
+}
+
+/// Files one after another, each with a month of its own account and the month after the next one's
+/// own. Of the first account months are held, unless it is a first night; of the others where they
+/// are known.
+fn in_steps(rng: &mut Rng, plan: &mut Plan, files: usize, known: bool) {
     let months = plan.months(rng);
-    let held = 1 + rng.index(2);
-    let chains: Vec<usize> = (0..files)
-        .map(|step| {
-            let known = held + step;
-            let end = known + if step == 0 { 1 } else { 2 };
-            plan.chain(rng, &months, 0..end, known)
-        })
-        .collect();
+    let first = 1 + rng.index(2);
+    let mut chains = Vec::new();
     for step in 0..files {
-        let mut statements = vec![plan.month(chains[step], held + step)];
+        let own = first + step;
+        let end = own + if step == 0 { 1 } else { 2 };
+        let some_held = known || (step == 0 && !plan.first_night);
+        let (begin, held) = if some_held { (0, own) } else { (own, 0) };
+        chains.push(plan.chain(rng, &months, begin..end, held));
+    }
+    for step in 0..files {
+        let mut statements = vec![plan.month(chains[step], first + step)];
         if step + 1 < files {
-            statements.push(plan.month(chains[step + 1], held + step + 2));
+            statements.push(plan.month(chains[step + 1], first + step + 2));
         }
-        shuffle(rng, &mut statements);
-        plan.send(rng, statements, Some(plan.stories));
+        send_in_any_order(rng, plan, statements);
     }
 }
 
-/// The same with a second account of which nothing is held: it begins with its late month, and the
-/// month before does not follow.
-fn late(rng: &mut Rng, plan: &mut Plan) {
-    plan.tries("begins-late");
-    let months = plan.months(rng);
-    let known = plan.chain(rng, &months, 0..2, 1);
-    let new = plan.chain(rng, &months, 2..4, 0);
-    let statements = vec![plan.month(known, 1), plan.month(new, 3)];
+/// One file of the story.
+fn send_in_any_order(rng: &mut Rng, plan: &mut Plan, mut statements: Vec<Statement>) {
+    shuffle(rng, &mut statements);
     plan.send(rng, statements, Some(plan.stories));
-    let before = plan.month(new, 2);
-    plan.send(rng, vec![before], Some(plan.stories));
-    plan.spoil(plan.stories);
+}
+
+/// The first month of an account of which nothing is held stands in a file that waits for a month of
+/// another account, and that does not come. So the account does not begin, though others of its
+/// months come.
+fn stuck(rng: &mut Rng, plan: &mut Plan) {
+    plan.tries("first-month-stuck");
+    let months = plan.months(rng);
+    let held = 1 + rng.index(2);
+    let gap = held + rng.index(2);
+    let known = plan.chain(rng, &months, 0..gap + 2, held);
+    let new = plan.chain(rng, &months, gap..gap + 3, 0);
+    for month in held..gap {
+        let statement = plan.month(known, month);
+        plan.send(rng, vec![statement], Some(plan.stories));
+    }
+    let both = vec![plan.month(new, gap), plan.month(known, gap + 1)];
+    send_in_any_order(rng, plan, both);
+    for month in [gap + 1, gap + 2] {
+        let statement = plan.month(new, month);
+        plan.send(rng, vec![statement], Some(plan.stories));
+    }
+    plan.ends_after(known, gap);
+    plan.ends_after(new, 0);
+}
+
+/// Two files of two accounts of which nothing is held. Each has the first month of the one and a
+/// later month of the other, so that each waits for the other.
+fn crossed(rng: &mut Rng, plan: &mut Plan) {
+    plan.tries("hold-each-other");
+    let months = plan.months(rng);
+    let first = rng.index(3);
+    let one = plan.chain(rng, &months, first..first + 2, 0);
+    let other = plan.chain(rng, &months, first + 1..first + 3, 0);
+    let early = vec![plan.month(one, first), plan.month(other, first + 2)];
+    let late = vec![plan.month(one, first + 1), plan.month(other, first + 1)];
+    for statements in [early, late] {
+        send_in_any_order(rng, plan, statements);
+    }
+    plan.ends_after(one, 0);
+    plan.ends_after(other, 0);
+}
+
+/// A file has two months of an account, another the month between. Neither is stored, and where
+/// nothing of the account is held the second is not even delivered.
+fn gap_inside(rng: &mut Rng, plan: &mut Plan) {
+    plan.tries("gap-inside");
+    let months = plan.months(rng);
+    let held = plan.some_held(rng, 1);
+    let chain = plan.chain(rng, &months, 0..held + 3, held);
+    let two = vec![plan.month(chain, held), plan.month(chain, held + 2)];
+    plan.send(rng, two, Some(plan.stories));
+    let between = plan.month(chain, held + 1);
+    plan.send(rng, vec![between], Some(plan.stories));
+    plan.ends_after(chain, held);
 }
 
 /// An account of which some months are held: one that follows does not come, later ones do. What
@@ -164,7 +238,7 @@ fn missing(rng: &mut Rng, plan: &mut Plan) {
         plan.send(rng, vec![statement], Some(plan.stories));
     }
     plan.name_backwards(first);
-    plan.chains[chain].statements.truncate(gap);
+    plan.ends_after(chain, gap);
 }
 
 /// A file has a month before the one that it follows. Where both come in other files too it is held
@@ -178,7 +252,7 @@ fn backwards(rng: &mut Rng, plan: &mut Plan) {
     plan.send(rng, vec![later, earlier], None);
     if rng.one_in(2) {
         plan.tries("wrong-order-alone");
-        plan.chains[chain].statements.truncate(held);
+        plan.ends_after(chain, held);
     } else {
         plan.tries("wrong-order-mended");
         for statement in both {

@@ -1,6 +1,6 @@
 //! Nights made by hand, what becomes of each file derived from the rule.
 
-use crate::common::{period, worked, Sheet};
+use crate::common::{movement, period, worked, Sheet};
 use oracle::delivery::{deliver, Delivered};
 use oracle::night::{found_line_end, is_taken, night, Fate, Incoming, Night};
 use oracle::nights::expected;
@@ -167,7 +167,7 @@ fn a_second_round() {
     let two = month(A, FEBRUARY).then(month(B, APRIL));
     let files = [("x", two.clone()), ("y", month(B, MARCH))];
     let night = run(&before, &files);
-    assert_eq!(night.rounds, [1, 2]);
+    assert_eq!(night.rounds, [1, 1]);
     assert_eq!(night.fates["x"], done(2, 0));
     assert_eq!(night.fates["y"], done(1, 0));
     let [one, other, third] = held;
@@ -175,7 +175,7 @@ fn a_second_round() {
     assert_eq!(text(&night, "begun"), "");
 }
 
-/// What waits for a month that does not come is left; a round that stores nothing is the last.
+/// What waits for a month that does not come is left; a round that gets no file done is the last.
 #[test]
 fn a_month_is_missing() {
     let held = [month(A, DECEMBER)];
@@ -186,7 +186,7 @@ fn a_month_is_missing() {
         ("held", month(A, DECEMBER)),
     ];
     let night = run(&journal(9, &held), &files);
-    assert_eq!(night.rounds, [1, 0]);
+    assert_eq!(night.rounds, [2, 0]);
     assert_eq!(night.fates["late"], left(22, 1));
     assert_eq!(night.fates["again"], left(22, 3));
     assert_eq!(night.fates["held"], done(0, 1));
@@ -209,7 +209,7 @@ fn ignored_and_refused() {
         ("e", month(A, MARCH).set(2, 1, b"09")),
     ];
     let night = run(&journal(9, &[]), &files);
-    assert_eq!(night.rounds, [1]);
+    assert_eq!(night.rounds, [2]);
     let refusal = |number, record| Fate::Refused(Refusal { number, record });
     assert_eq!(night.fates["a"], refusal(14, 1));
     assert_eq!(night.fates["e"], refusal(6, 2));
@@ -246,7 +246,7 @@ fn lines_are_full() {
     ];
     let before = journal(5, std::slice::from_ref(&held));
     let night = run(&before, &files);
-    assert_eq!(night.rounds, [1, 0]);
+    assert_eq!(night.rounds, [2, 0]);
     assert_eq!(night.fates["2"], left(24, 1));
     assert_eq!(night.fates["3"], done(0, 1));
     assert_holds(&night, &[held, month(A, JANUARY)]);
@@ -267,44 +267,259 @@ fn entries_are_full() {
         ("3", held[126].clone().then(held[3].clone())),
     ];
     let night = run(&journal(300, &held), &files);
-    assert_eq!(night.rounds, [1, 0]);
+    assert_eq!(night.rounds, [2, 0]);
     assert_eq!(night.fates["2"], left(23, 1));
     assert_eq!(night.fates["3"], done(0, 2));
     held.push(month(A, JANUARY));
     assert_holds(&night, &held);
 }
 
-/// The rule looks at a file's earliest date alone. So an account of which nothing is held begins
-/// with a late month where that stands in a file with an early one of another account.
+/// A late month of an account of which nothing is held stands in a file with an early one of another
+/// account. It waits for the first, which is done later in the same round; so it comes in a second.
 #[test]
-fn an_account_may_begin_late() {
-    let held = [month(A, JANUARY)];
+fn a_late_month_waits_for_the_first() {
+    let held = month(A, JANUARY);
     let two = month(A, FEBRUARY).then(month(B, APRIL));
-    let files = [("x", two), ("y", month(B, MARCH))];
-    let night = run(&journal(20, &held), &files);
-    assert_eq!(night.rounds, [2, 0]);
-    assert_eq!(night.fates["y"], left(22, 1));
+    let files = [("x", two.clone()), ("y", month(B, MARCH))];
+    let night = run(&journal(20, &[held.clone()]), &files);
+    assert_eq!(night.rounds, [1, 1]);
+    assert_eq!(night.fates["x"], done(2, 0));
+    assert_eq!(night.fates["y"], done(1, 0));
+    assert_holds(&night, &[held, month(B, MARCH), two]);
     assert_eq!(
         text(&night, "begun"),
-        "12345-00010-EUR-2-0000000000B 2025-03-31\n"
+        "12345-00010-EUR-2-0000000000B 2025-02-28\n"
     );
+    assert_eq!(text(&night, "status"), "0\n");
 }
 
-/// So does one whose first month stands in a file that waits for another account.
+/// The same file after file: each round releases one.
 #[test]
-fn an_account_may_begin_without_its_first() {
-    let held = [month(A, JANUARY)];
+fn a_third_round() {
+    const C: &[u8; 11] = b"0000000000C";
+    let first = month(A, JANUARY).then(month(B, MARCH));
+    let second = month(C, APRIL).then(month(B, FEBRUARY));
+    let files = [
+        ("x", first.clone()),
+        ("y", second.clone()),
+        ("z", month(C, MARCH)),
+    ];
+    let night = run(&journal(20, &[]), &files);
+    assert_eq!(night.rounds, [1, 1, 1]);
+    assert_holds(&night, &[month(C, MARCH), second, first]);
+}
+
+/// The first month stands in a file that waits for another account. Once that has come on, both
+/// files are done.
+#[test]
+fn a_first_month_that_waits() {
+    let held = month(A, JANUARY);
     let two = month(B, JANUARY).then(month(A, MARCH));
     let files = [
         ("w", month(A, FEBRUARY)),
-        ("x", two),
+        ("x", two.clone()),
         ("y", month(B, FEBRUARY)),
     ];
-    let night = run(&journal(20, &held), &files);
-    assert_eq!(night.rounds, [2, 0]);
-    assert_eq!(night.fates["x"], left(22, 1));
+    let night = run(&journal(20, &[held.clone()]), &files);
+    assert_eq!(night.rounds, [1, 2]);
+    assert!(night
+        .fates
+        .values()
+        .all(|fate| matches!(fate, Fate::Done(_))));
+    let after = [held, month(A, FEBRUARY), two, month(B, FEBRUARY)];
+    assert_holds(&night, &after);
     assert_eq!(
         text(&night, "begun"),
-        "12345-00010-EUR-2-0000000000B 2025-01-31\n"
+        "12345-00010-EUR-2-0000000000B 2024-12-31\n"
     );
+}
+
+/// Where the other account does not come on, the first does not begin, and all its files are left.
+#[test]
+fn an_account_does_not_begin_without_its_first() {
+    let held = month(A, JANUARY);
+    let two = month(B, JANUARY).then(month(A, MARCH));
+    let files = [
+        ("x", two),
+        ("y", month(B, FEBRUARY)),
+        ("z", month(B, MARCH)),
+    ];
+    let night = run(&journal(20, &[held.clone()]), &files);
+    assert_eq!(night.rounds, [0]);
+    assert_eq!(night.fates["x"], left(22, 3));
+    assert_eq!(night.fates["y"], Fate::HeldBack);
+    assert_eq!(night.fates["z"], Fate::HeldBack);
+    assert_holds(&night, &[held]);
+    assert_eq!(text(&night, "begun"), "");
+    assert_eq!(text(&night, "left"), "x\ny\nz\n");
+    let totals = "done 0, refused 0, left 3, stored 0, held 0\n";
+    assert_eq!(text(&night, "totals"), totals);
+    assert_eq!(text(&night, "status"), "4\n");
+}
+
+/// Each has the first month of one account and a later one of the other.
+#[test]
+fn two_files_hold_each_other_back() {
+    let one = month(A, JANUARY).then(month(B, MARCH));
+    let other = month(B, FEBRUARY).then(month(A, FEBRUARY));
+    let before = journal(20, &[]);
+    let night = run(&before, &[("x", one), ("y", other)]);
+    assert_eq!(night.rounds, [0]);
+    assert_eq!(night.fates["x"], Fate::HeldBack);
+    assert_eq!(night.fates["y"], Fate::HeldBack);
+    assert!(night.journal == before);
+    assert_eq!(text(&night, "left"), "x\ny\n");
+    assert_eq!(text(&night, "begun"), "");
+    assert_eq!(text(&night, "status"), "4\n");
+}
+
+/// A file that can never be delivered holds others back all the same.
+#[test]
+fn a_gap_inside_a_file() {
+    let gap = month(B, JANUARY).then(month(B, MARCH));
+    let before = journal(20, &[]);
+    let night = run(&before, &[("x", gap), ("y", month(B, FEBRUARY))]);
+    assert_eq!(night.rounds, [0]);
+    assert_eq!(night.fates["x"], left(22, 3));
+    assert_eq!(night.fates["y"], Fate::HeldBack);
+    assert!(night.journal == before);
+}
+
+/// The earliest date of an account counts, wherever in the file its statement stands.
+#[test]
+fn the_earliest_may_stand_last() {
+    let backwards = month(A, MARCH).then(month(A, JANUARY));
+    let before = journal(20, &[]);
+    let night = run(&before, &[("x", backwards), ("y", month(A, FEBRUARY))]);
+    assert_eq!(night.fates["x"], left(22, 3));
+    assert_eq!(night.fates["y"], Fate::HeldBack);
+    assert!(night.journal == before);
+}
+
+/// The same date holds nothing back.
+#[test]
+fn two_copies() {
+    let january = month(A, JANUARY);
+    let both = january.clone().then(month(A, FEBRUARY));
+    let files = [
+        ("a", january.clone()),
+        ("b", january.clone()),
+        ("c", both.clone()),
+    ];
+    let night = run(&journal(9, &[]), &files);
+    assert_eq!(night.rounds, [3]);
+    assert_eq!(night.fates["a"], done(1, 0));
+    assert_eq!(night.fates["b"], done(0, 1));
+    assert_eq!(night.fates["c"], done(1, 1));
+    assert_holds(&night, &[both]);
+}
+
+/// An account that the journal knows is not held back: December waits in vain, February follows.
+/// What does not follow is refused, though an earlier file waits.
+#[test]
+fn a_known_account_is_not_held_back() {
+    let held = month(A, JANUARY);
+    let files = [
+        ("x", month(A, DECEMBER)),
+        ("y", month(A, FEBRUARY)),
+        ("z", month(A, APRIL)),
+    ];
+    let night = run(&journal(9, &[held.clone()]), &files);
+    assert_eq!(night.rounds, [1, 0]);
+    assert_eq!(night.fates["x"], left(22, 1));
+    assert_eq!(night.fates["y"], done(1, 0));
+    assert_eq!(night.fates["z"], left(22, 1));
+    assert_holds(&night, &[held, month(A, FEBRUARY)]);
+}
+
+/// One account of a file is known, the other is not: that one holds it back.
+#[test]
+fn one_of_two_accounts_is_new() {
+    let held = month(A, JANUARY);
+    let two = month(A, FEBRUARY).then(month(B, FEBRUARY));
+    let gap = month(B, JANUARY).then(month(B, MARCH));
+    let night = run(&journal(9, &[held.clone()]), &[("x", two), ("y", gap)]);
+    assert_eq!(night.fates["x"], Fate::HeldBack);
+    assert_eq!(night.fates["y"], left(22, 3));
+    assert_holds(&night, &[held]);
+}
+
+/// What the check refuses holds nothing back, nor does what is not taken.
+#[test]
+fn refused_and_ignored_hold_nothing_back() {
+    let files = [
+        ("a", month(A, JANUARY).set(2, 1, b"09")),
+        ("b.part", month(A, JANUARY)),
+        ("c", month(A, FEBRUARY)),
+    ];
+    let night = run(&journal(9, &[]), &files);
+    assert_eq!(night.rounds, [1]);
+    assert_eq!(
+        night.fates["a"],
+        Fate::Refused(Refusal {
+            number: 6,
+            record: 2
+        })
+    );
+    assert_eq!(night.fates["c"], done(1, 0));
+    assert_eq!(
+        text(&night, "begun"),
+        "12345-00010-EUR-2-0000000000A 2025-01-31\n"
+    );
+}
+
+/// A file for which there is no room holds back one for which there would be.
+#[test]
+fn a_first_month_without_room() {
+    let line = movement("05", "150125", "150125", "0000000000000{");
+    let long = month(A, JANUARY).with(2, line).set(2, 22, A);
+    let files = [("x", long), ("y", month(A, FEBRUARY))];
+    let before = journal(2, &[]);
+    let night = run(&before, &files);
+    assert_eq!(night.rounds, [0]);
+    assert_eq!(night.fates["x"], left(24, 1));
+    assert_eq!(night.fates["y"], Fate::HeldBack);
+    assert!(night.journal == before);
+}
+
+/// An account is its whole key: one that differs in a zone holds nothing back.
+#[test]
+fn accounts_are_whole_keys() {
+    let zones: [(usize, &[u8]); 5] = [
+        (3, b"12346"),
+        (12, b"00011"),
+        (17, b"USD"),
+        (20, b"3"),
+        (22, B),
+    ];
+    for (position, bytes) in zones {
+        let gap = month(A, JANUARY).then(month(A, MARCH));
+        let other = (1..=4).fold(gap, |sheet, record| sheet.set(record, position, bytes));
+        let files = [("x", other), ("y", month(A, FEBRUARY))];
+        let night = run(&journal(9, &[]), &files);
+        assert_eq!(night.fates["x"], left(22, 3), "{position}");
+        assert_eq!(night.fates["y"], done(1, 0), "{position}");
+    }
+}
+
+/// December 1999 is before January 2000, and not after it.
+#[test]
+fn holding_back_at_the_turn_of_the_century() {
+    let december = period(A, "301199", "311299");
+    let january = period(A, "311299", "310100");
+    let february = period(A, "310100", "290200");
+    let march = period(A, "290200", "310300");
+    let night = run(
+        &journal(9, &[]),
+        &[
+            ("x", december.clone().then(february.clone())),
+            ("y", january.clone()),
+        ],
+    );
+    assert_eq!(night.fates["y"], Fate::HeldBack);
+    let night = run(
+        &journal(9, &[]),
+        &[("x", january.then(march)), ("y", december)],
+    );
+    assert_eq!(night.fates["y"], done(1, 0));
 }
