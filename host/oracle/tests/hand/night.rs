@@ -281,7 +281,7 @@ fn a_late_month_waits_for_the_first() {
     let held = month(A, JANUARY);
     let two = month(A, FEBRUARY).then(month(B, APRIL));
     let files = [("x", two.clone()), ("y", month(B, MARCH))];
-    let night = run(&journal(20, &[held.clone()]), &files);
+    let night = run(&journal(20, std::slice::from_ref(&held)), &files);
     assert_eq!(night.rounds, [1, 1]);
     assert_eq!(night.fates["x"], done(2, 0));
     assert_eq!(night.fates["y"], done(1, 0));
@@ -320,7 +320,7 @@ fn a_first_month_that_waits() {
         ("x", two.clone()),
         ("y", month(B, FEBRUARY)),
     ];
-    let night = run(&journal(20, &[held.clone()]), &files);
+    let night = run(&journal(20, std::slice::from_ref(&held)), &files);
     assert_eq!(night.rounds, [1, 2]);
     assert!(night
         .fates
@@ -344,7 +344,7 @@ fn an_account_does_not_begin_without_its_first() {
         ("y", month(B, FEBRUARY)),
         ("z", month(B, MARCH)),
     ];
-    let night = run(&journal(20, &[held.clone()]), &files);
+    let night = run(&journal(20, std::slice::from_ref(&held)), &files);
     assert_eq!(night.rounds, [0]);
     assert_eq!(night.fates["x"], left(22, 3));
     assert_eq!(night.fates["y"], Fate::HeldBack);
@@ -424,12 +424,29 @@ fn a_known_account_is_not_held_back() {
         ("y", month(A, FEBRUARY)),
         ("z", month(A, APRIL)),
     ];
-    let night = run(&journal(9, &[held.clone()]), &files);
+    let night = run(&journal(9, std::slice::from_ref(&held)), &files);
     assert_eq!(night.rounds, [1, 0]);
     assert_eq!(night.fates["x"], left(22, 1));
     assert_eq!(night.fates["y"], done(1, 0));
     assert_eq!(night.fates["z"], left(22, 1));
     assert_holds(&night, &[held, month(A, FEBRUARY)]);
+}
+
+/// An account that a file begins is known to the next one in the same round: March is done in the
+/// first, though a file with February waits on.
+#[test]
+fn an_account_is_known_at_once() {
+    let held = month(B, JANUARY);
+    let first = month(A, JANUARY).then(month(A, FEBRUARY));
+    let files = [
+        ("x", first.clone()),
+        ("y", month(A, FEBRUARY).then(month(B, MARCH))),
+        ("z", month(A, MARCH)),
+    ];
+    let night = run(&journal(20, std::slice::from_ref(&held)), &files);
+    assert_eq!(night.rounds, [2, 0]);
+    assert_eq!(night.fates["y"], left(22, 3));
+    assert_holds(&night, &[held, first, month(A, MARCH)]);
 }
 
 /// One account of a file is known, the other is not: that one holds it back.
@@ -438,7 +455,10 @@ fn one_of_two_accounts_is_new() {
     let held = month(A, JANUARY);
     let two = month(A, FEBRUARY).then(month(B, FEBRUARY));
     let gap = month(B, JANUARY).then(month(B, MARCH));
-    let night = run(&journal(9, &[held.clone()]), &[("x", two), ("y", gap)]);
+    let night = run(
+        &journal(9, std::slice::from_ref(&held)),
+        &[("x", two), ("y", gap)],
+    );
     assert_eq!(night.fates["x"], Fate::HeldBack);
     assert_eq!(night.fates["y"], left(22, 3));
     assert_holds(&night, &[held]);
