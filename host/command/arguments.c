@@ -32,8 +32,8 @@ static const struct option_form options[] = {
      "gives up after so many seconds where another command\n"
      "holds the journal or the folder, for each file; without\nit, waits as long as it takes"},
     {OPTION_GO_ON, "go-on", NULL,
-     "delivers the others where a file cannot be read or moved;\n"
-     "without it, nothing younger is delivered after it"},
+     "delivers the others where a file cannot be read; without\n"
+     "it, nothing is delivered after it"},
     {OPTION_WHOLE, "whole", NULL, "amounts as whole numbers of the last decimal place"},
     {OPTION_SVG, "svg", "FILE",
      "draws it too, to this file. It may be an older picture of\n"

@@ -36,12 +36,15 @@ static bool take_part(struct bytes *journal, uint64_t line_end, const uint8_t *p
     return added;
 }
 
+enum { MOST_PARTS = 200 };
+
 /* Where a statement does not follow those before it, or is one too many for a journal, those before it are a file of
- * their own, and so is the rest. */
+ * their own, and so is the rest. No file of a new account can have so many gaps and be delivered: after the last part
+ * nothing more is looked at. */
 static bool take_parts(const struct input *input, struct bytes *journal, struct begins *begins) {
     size_t width = CROWNHAZEL_RECORD + (size_t)input->line_end;
     bool good = true;
-    for (size_t at = 0; good && at < input->kept.length;) {
+    for (size_t at = 0, parts = 0; good && at < input->kept.length && parts < MOST_PARTS; parts++) {
         uint64_t answer;
         const uint8_t *rest = input->kept.first + at;
         size_t length = input->kept.length - at;

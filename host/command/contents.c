@@ -65,9 +65,9 @@ bool has_account(const struct entry *entries, size_t count, const struct entry *
     return at < count;
 }
 
-/* Dates stand as digits, the year first. */
+/* Dates stand as digits, the year first, the old one before the new. */
 bool begins_before(const struct entry *one, const struct entry *other) {
-    return memcmp(one->row + ROW_OLD_DATE, other->row + ROW_OLD_DATE, ROW_NEW_DATE - ROW_OLD_DATE) < 0;
+    return memcmp(one->row + ROW_OLD_DATE, other->row + ROW_OLD_DATE, CROWNHAZEL_ROW - ROW_OLD_DATE) < 0;
 }
 
 /* What was stored last stands last. A delivery leaves a sound journal, so there is no test here. */

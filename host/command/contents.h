@@ -42,8 +42,8 @@ uint64_t read_contents(const struct bytes *journal, struct contents *contents);
  * message where it is not STATUS_DONE; then there is nothing to let go. */
 int look_into(const char *name, struct bytes *journal, struct contents *contents);
 
-/* Whether two entries are of one account, whether one among several is of another's, and whether the old date of one is
- * earlier. */
+/* Whether two entries are of one account, whether one among several is of another's, and whether one comes before the
+ * other: by the old date, then by the new one. */
 bool same_account(const struct entry *one, const struct entry *other);
 bool has_account(const struct entry *entries, size_t count, const struct entry *entry);
 bool begins_before(const struct entry *one, const struct entry *other);

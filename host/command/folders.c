@@ -36,7 +36,14 @@ static bool is_same(const struct stat *one, const struct stat *other) {
     return one->st_dev == other->st_dev && one->st_ino == other->st_ino;
 }
 
-/* The three are apart, and the journal stands in none of them: it would be judged as a file, or get one for its lock.
+static int elsewhere(const struct folder *folder, const struct folder *incoming) {
+    complain(folder->name, "it is on another file system than %s: a file could not be moved there as a whole",
+             incoming->name);
+    return STATUS_USAGE;
+}
+
+/* The three are apart, on one file system, and the journal stands in none of them: it would be judged as a file, or get
+ * one for its lock.
  */
 static int look_at(const struct folders *folders, const struct place *journal) {
     struct stat incoming, done, refused, around;
@@ -47,6 +54,9 @@ static int look_at(const struct folders *folders, const struct place *journal) {
     if (is_same(&incoming, &done) || is_same(&incoming, &refused) || is_same(&done, &refused)) {
         complain("intake", "INCOMING, DONE and REFUSED are three folders");
         return STATUS_USAGE;
+    }
+    if (incoming.st_dev != done.st_dev || incoming.st_dev != refused.st_dev) {
+        return elsewhere(incoming.st_dev != done.st_dev ? &folders->done : &folders->refused, &folders->incoming);
     }
     if (is_same(&incoming, &around) || is_same(&done, &around) || is_same(&refused, &around)) {
         complain(journal->name,
@@ -78,8 +88,8 @@ static char *numbered_path(const struct folder *folder, const char *name, unsign
     return path;
 }
 
-/* A rename between two file systems is refused before the name is looked up, so one that nobody has shows it and moves
- * nothing. */
+/* A rename between two mounts, of one file system too, is refused before the name is looked up, so one that nobody has
+ * shows it and moves nothing. */
 static int try_to_move(const struct folder *from, const struct folder *to) {
     char name[48];
     snprintf(name, sizeof name, ".%ld.%ld" TEMPORARY_ENDING, (long)getpid(), (long)getppid());
@@ -91,11 +101,7 @@ static int try_to_move(const struct folder *from, const struct folder *to) {
     if (possible) {
         return STATUS_DONE;
     }
-    if (errno != EXDEV) {
-        return failed(to->name, "files cannot be moved there");
-    }
-    complain(to->name, "it is on another file system than %s: a file could not be moved there as a whole", from->name);
-    return STATUS_USAGE;
+    return errno == EXDEV ? elsewhere(to, from) : failed(to->name, "files cannot be moved there");
 }
 
 static int test_folders(const struct arguments *arguments, const struct place *journal, const struct folders *folders) {
@@ -183,27 +189,34 @@ static char *move_to_first_free(const char *from, const struct folder *to, const
             return NULL;
         }
     }
+    errno = EEXIST;
     return NULL;
 }
 
 static int not_moved(const char *path, const struct folder *to) {
-    complain(path, "it cannot be moved to %s: %s; it is left in place", to->name, strerror(errno));
+    complain(path, "it cannot be moved to %s: %s", to->name, strerror(errno));
+    return STATUS_SYSTEM;
+}
+
+static int another_file(const char *path, const char *where) {
+    complain(path, "another program has put another file in its place meanwhile, which waits as %s", where);
     return STATUS_SYSTEM;
 }
 
 /* What another program has put in the file's place was moved with its name. It was not delivered, so it goes back. */
 static int give_back(const struct folders *folders, const char *path, const char *moved) {
     char *back = move_to_first_free(moved, &folders->incoming, last_part(path));
-    if (back != NULL) {
-        complain(path, "another program has put another file in its place meanwhile, which waits as %s", back);
-    } else {
+    if (back == NULL) {
         complain(path,
                  "another program has put another file in its place meanwhile, which is %s now and was not "
                  "delivered: move it back",
                  moved);
+        return STATUS_SYSTEM;
     }
+    sync_whole(folders->incoming.descriptor); /* where it fails the next run finds it in one of the two */
+    int status = another_file(path, back);
     free(back);
-    return STATUS_SYSTEM;
+    return status;
 }
 
 static int sync_one(const struct folder *folder, const char *path) {
@@ -216,11 +229,31 @@ static void forget(char **path) {
     *path = NULL;
 }
 
+static bool is_gone(const char *path) {
+    struct stat status;
+    return lstat(path, &status) != 0 && errno == ENOENT;
+}
+
+/* Whether the path still names the file, and all of it is on the disk: it may exist nowhere else. */
+static int prepare_move(const char *path, int file) {
+    if (!sync_whole(file)) {
+        return failed(path, "it cannot be brought to the disk");
+    }
+    if (names_file(path, file)) {
+        return STATUS_DONE;
+    }
+    if (errno == 0 && is_gone(path)) {
+        complain(path, "another program has taken it away meanwhile");
+        return STATUS_SYSTEM;
+    }
+    return errno == 0 ? another_file(path, path) : failed(path, "it cannot be looked at");
+}
+
 /* What was moved is looked at once more, and both folders are brought to the disk. There is no new path where it was
- * another file. */
+ * another file. One that has been taken from there already was moved all the same. */
 static int settle_move(const struct folders *folders, const struct folder *to, const char *path, int file,
                        char **moved) {
-    if (names_file(*moved, file)) {
+    if (names_file(*moved, file) || (errno == 0 && is_gone(*moved))) {
         int status = sync_one(to, path);
         return status == STATUS_DONE ? sync_one(&folders->incoming, path) : status;
     }
@@ -233,6 +266,11 @@ static int settle_move(const struct folders *folders, const struct folder *to, c
 }
 
 int move_to_done(const struct folders *folders, const char *path, int file, char **moved) {
+    *moved = NULL;
+    int status = prepare_move(path, file);
+    if (status != STATUS_DONE) {
+        return status;
+    }
     *moved = move_to_first_free(path, &folders->done, last_part(path));
     if (*moved == NULL) {
         return not_moved(path, &folders->done);
@@ -268,31 +306,30 @@ static int put_answer(const struct folder *folder, const char *path, const char 
     return status == STATUS_DONE ? sync_one(folder, path) : status;
 }
 
-/* Moves the file to `*moved`, with its answer beside it first. STATUS_USAGE where either name is taken. There is no new
- * path where it was not moved, and then no answer either, unless the system is at fault: the next run finds it. */
+/* Moves the file to `*moved`, with its answer beside it first. STATUS_USAGE where either name is taken; the answer then
+ * stays, since whoever has the name may have taken it for its own. There is no new path where it was not moved. */
 static int refuse_as(const struct folders *folders, const char *path, int file, const struct bytes *answer,
                      char **moved, const char *beside) {
     struct stat taken;
     int status = lstat(*moved, &taken) == 0 ? STATUS_USAGE : put_answer(&folders->refused, path, beside, answer);
-    if (status != STATUS_DONE) {
-        forget(moved);
+    if (status == STATUS_DONE && !move_to_free(path, *moved)) {
+        status = errno == EEXIST ? STATUS_USAGE : not_moved(path, &folders->refused);
+    } else if (status == STATUS_DONE) {
+        status = settle_move(folders, &folders->refused, path, file, moved);
+        if (*moved == NULL) {
+            unlink(beside); /* what was moved with the name has gone back, and this is not its answer */
+        }
         return status;
     }
-    if (move_to_free(path, *moved)) {
-        status = settle_move(folders, &folders->refused, path, file, moved);
-    } else {
-        status = errno == EEXIST ? STATUS_USAGE : not_moved(path, &folders->refused);
-        forget(moved);
-    }
-    if (*moved == NULL) {
-        unlink(beside);
-    }
+    forget(moved);
     return status;
 }
 
 int move_to_refused(const struct folders *folders, const char *path, int file, const struct bytes *answer,
                     char **moved) {
-    int status = STATUS_USAGE;
+    *moved = NULL;
+    int status = prepare_move(path, file);
+    status = status == STATUS_DONE ? STATUS_USAGE : status; /* no name was found yet */
     for (unsigned number = 0; status == STATUS_USAGE && number <= MOST_NUMBER; number++) {
         *moved = numbered_path(&folders->refused, last_part(path), number, "");
         char *beside = numbered_path(&folders->refused, last_part(path), number, ANSWER_ENDING);
@@ -304,5 +341,6 @@ int move_to_refused(const struct folders *folders, const char *path, int file, c
         }
         free(beside);
     }
+    errno = EEXIST;
     return status == STATUS_USAGE ? not_moved(path, &folders->refused) : status;
 }

@@ -23,41 +23,48 @@ struct night {
     struct folders folders;
     struct waiting waiting;
     struct contents before;                      /* what the journal held when the run began */
+    size_t delivered;                            /* files that the journal holds */
     size_t done, refused;                        /* files */
-    uint64_t stored, held;                       /* statements of the files that are done */
+    uint64_t stored, held;                       /* statements */
     struct entry begun[CROWNHAZEL_MOST_ENTRIES]; /* the first entry of each account that began in this run */
     size_t begun_count;
     int status;
     bool ended; /* nothing more is delivered */
 };
 
-/* Something went wrong with one file. What may be in it nobody knows, so nothing younger is delivered after it, unless
- * the caller wants that. */
+/* The file cannot be taken in this run. */
 static void pass_over(struct night *night, struct waiting_file *file, int status) {
     file->fate = PASSED_OVER;
     night->status = worse(night->status, status);
-    night->ended = night->ended || !night->arguments->go_on;
 }
 
-static void note_begun(struct night *night, const struct delivered *delivered) {
+/* What may be in a file that cannot be read nobody knows, so nothing is delivered after it, unless the caller wants
+ * that. */
+static void stop_at(struct night *night, struct waiting_file *file) {
+    pass_over(night, file, STATUS_SYSTEM);
+    night->ended = !night->arguments->go_on;
+}
+
+/* What a delivery has done to the journal counts, whatever becomes of the file. */
+static void note_delivered(struct night *night, const struct delivered *delivered) {
+    night->delivered++;
+    night->stored += crownhazel_stored(delivered->answer);
+    night->held += crownhazel_held(delivered->answer);
     for (size_t i = 0; i < delivered->begun_count && night->begun_count < CROWNHAZEL_MOST_ENTRIES; i++) {
         night->begun[night->begun_count++] = delivered->begun[i];
     }
 }
 
-/* Stored or held, and on the disk. */
+/* Stored or held, and on the disk. One that cannot be moved is in the journal all the same. */
 static void put_to_done(struct night *night, struct waiting_file *file, int descriptor,
                         const struct delivered *delivered) {
     char *moved = NULL;
-    uint32_t stored = crownhazel_stored(delivered->answer), held = crownhazel_held(delivered->answer);
-    night->stored += stored;
-    night->held += held;
-    note_begun(night, delivered);
     int status = move_to_done(&night->folders, file->path, descriptor, &moved);
     night->done += moved != NULL;
     if (status == STATUS_DONE) {
         file->fate = MOVED;
-        status = answer(file->path, "stored %" PRIu32 ", held %" PRIu32 ", moved to %s", stored, held, moved);
+        status = answer(file->path, "stored %" PRIu32 ", held %" PRIu32 ", moved to %s",
+                        crownhazel_stored(delivered->answer), crownhazel_held(delivered->answer), moved);
         night->status = worse(night->status, status);
     } else {
         pass_over(night, file, status);
@@ -72,23 +79,29 @@ static void write_answer(FILE *out, const void *what) {
             crownhazel_record(*refusal), crownhazel_words(crownhazel_refusal(*refusal)));
 }
 
-/* Refused by the file's own fault. */
+/* Where a refused file went, in words; empty where it was not moved. The caller's to free, NULL where there is no
+ * memory. */
+static char *words_of_move(const char *moved) {
+    char *words = NULL;
+    return asprintf(&words, "%s%s", moved == NULL ? "it is left in place" : "moved to ", moved == NULL ? "" : moved) < 0
+               ? NULL
+               : words;
+}
+
+/* Refused by the file's own fault, which is said wherever the file is then. It has no statement, so it shuts nothing
+ * out. */
 static void put_to_refused(struct night *night, struct waiting_file *file, int descriptor, uint64_t refusal) {
     struct bytes beside;
     char *moved = NULL;
-    char *where = NULL;
     if (!take_text(write_answer, &refusal, &beside)) {
         pass_over(night, file, failed(file->path, "no memory for the answer"));
         return;
     }
     int status = move_to_refused(&night->folders, file->path, descriptor, &beside, &moved);
+    char *where = words_of_move(moved);
     night->refused += moved != NULL;
-    if (status == STATUS_DONE && asprintf(&where, "moved to %s", moved) >= 0) {
-        file->fate = MOVED;
-        night->status = worse(night->status, refused_for(file->path, refusal, where));
-    } else {
-        pass_over(night, file, status);
-    }
+    pass_over(night, file, worse(status, refused_for(file->path, refusal, where == NULL ? "" : where)));
+    file->fate = moved == NULL ? PASSED_OVER : MOVED;
     free(where);
     free(moved);
     let_go(&beside);
@@ -118,16 +131,20 @@ static void take_file(struct night *night, struct waiting_file *file) {
     struct delivered delivered;
     int descriptor;
     if (!open_waiting(file, &input, &descriptor)) {
-        pass_over(night, file, STATUS_SYSTEM);
+        stop_at(night, file);
         return;
     }
     int status = deliver_input(night->arguments, &input, &delivered);
     let_go(&input.kept);
+    if (status == STATUS_DONE && !crownhazel_is_refused(delivered.answer)) {
+        note_delivered(night, &delivered);
+    }
     if (status != STATUS_DONE) {
         night->status = worse(night->status, status);
         night->ended = true;
     } else if (was_changed(file, descriptor)) {
-        complain(file->path, "another program has written to it during the delivery; it is left in place");
+        complain(file->path,
+                 "another program has changed or replaced it during the delivery; what has its name now waits");
         pass_over(night, file, STATUS_SYSTEM);
     } else {
         put_away(night, file, descriptor, &delivered);
@@ -167,14 +184,29 @@ static void run_round(struct night *night) {
     wipe_passing();
 }
 
+/* Which accounts the journal has by now; others may deliver to it, or restore it. */
+static bool look_again(struct night *night) {
+    struct bytes journal;
+    int status = look_into(night->journal, &journal, &night->before);
+    if (status == STATUS_DONE) {
+        let_go(&journal);
+    }
+    night->status = worse(night->status, status);
+    return status == STATUS_DONE;
+}
+
 /* A file that could not follow may follow what a later one has brought, and one that had to wait for another can come
- * after it, so there is another round as long as a file is done. */
+ * after it, so there is another round as long as a file is delivered. */
 static void run_rounds(struct night *night) {
     size_t before;
     do {
-        before = night->done;
-        run_round(night);
-    } while (!night->ended && night->done > before);
+        before = night->delivered;
+        if (look_again(night)) {
+            run_round(night);
+        } else {
+            night->ended = true;
+        }
+    } while (!night->ended && night->delivered > before);
 }
 
 static int tell_behind(const struct night *night, const struct waiting_file *file) {
@@ -221,7 +253,7 @@ static int tell_totals(const struct night *night) {
 
 /* A file that was put away unread by the journal may have been the first of an account that has begun without it. */
 static void warn(const struct night *night) {
-    size_t passed = night->waiting.count - night->done;
+    size_t passed = night->waiting.count - night->delivered;
     if (night->begun_count > 0 && passed > 0) {
         complain(night->journal,
                  "accounts begin in this run, and not all files are in the journal (%zu are not): look whether one of "
@@ -255,13 +287,13 @@ static int run_night(struct night *night, const struct place *journal) {
 }
 
 /* Nothing is looked at, let alone moved, where the journal is not sound. */
-static int test_journal(struct place *place, struct contents *contents) {
+static int test_journal(struct place *place) {
     struct bytes journal;
     int status = read_journal(place, &journal);
     if (status != STATUS_DONE) {
         return status;
     }
-    uint64_t used = read_contents(&journal, contents);
+    uint64_t used = crownhazel_used(journal.first, journal.length);
     if (crownhazel_is_refused(used)) {
         status = refused_by(place->name, used, place->name, lines_of(&journal));
     }
@@ -276,7 +308,7 @@ int intake_command(const struct arguments *arguments) {
     if (status != STATUS_DONE) {
         return status;
     }
-    status = test_journal(&place, &night.before);
+    status = test_journal(&place);
     if (status == STATUS_DONE) {
         status = open_folders(arguments, &place, &night.folders);
         if (status == STATUS_DONE) {

@@ -70,7 +70,7 @@ int hold_name(struct place *place, const struct patience *patience) {
     return status == STATUS_DONE ? take_name_lock(place, patience) : status;
 }
 
-static bool sync_whole(int descriptor) {
+bool sync_whole(int descriptor) {
     int status;
     do {
         status = fsync(descriptor);

@@ -33,6 +33,9 @@ int settle_journal(const struct place *place);
 
 /* For files beside journals. */
 
+/* Brings what was written to a file, or the names in a folder, to the disk. False with errno where it fails. */
+bool sync_whole(int descriptor);
+
 /* Brings bytes to the disk through a descriptor. False with errno where it fails. */
 bool write_to_disk(int descriptor, const struct bytes *bytes);
 

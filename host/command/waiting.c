@@ -43,10 +43,16 @@ static bool add_path(struct waiting *waiting, char *path) {
 }
 
 static bool add_name(struct waiting *waiting, const struct folder *incoming, const char *name) {
-    char *path = is_under_way(name) ? NULL : path_in(incoming, name);
-    if (path == NULL || is_folder(path)) {
+    if (is_under_way(name)) {
+        return true;
+    }
+    char *path = path_in(incoming, name);
+    if (path == NULL) {
+        return false;
+    }
+    if (is_folder(path)) {
         free(path);
-        return path != NULL || is_under_way(name);
+        return true;
     }
     return add_path(waiting, path);
 }
@@ -178,7 +184,7 @@ static bool is_as_it_was(const struct stat *then, const struct stat *now) {
            then->st_mtim.tv_sec == now->st_mtim.tv_sec && then->st_mtim.tv_nsec == now->st_mtim.tv_nsec;
 }
 
-bool open_waiting(const struct waiting_file *file, struct input *input, int *descriptor) {
+bool open_waiting(struct waiting_file *file, struct input *input, int *descriptor) {
     struct stat status;
     *descriptor = open_file(file->path);
     bool read = read_file(file->path, *descriptor, &status, input);
@@ -190,12 +196,17 @@ bool open_waiting(const struct waiting_file *file, struct input *input, int *des
     if (!read && *descriptor >= 0) {
         close(*descriptor);
     }
+    file->status = read ? status : file->status;
     return read;
 }
 
+/* The time of a change of the file's status cannot be put back, and nothing here changes it before the file is moved.
+ */
 bool was_changed(const struct waiting_file *file, int descriptor) {
-    struct stat status;
-    return fstat(descriptor, &status) != 0 || !is_as_it_was(&file->status, &status);
+    struct stat now;
+    const struct stat *then = &file->status;
+    return fstat(descriptor, &now) != 0 || !is_as_it_was(then, &now) || then->st_ctim.tv_sec != now.st_ctim.tv_sec ||
+           then->st_ctim.tv_nsec != now.st_ctim.tv_nsec;
 }
 
 /* Whether another file has an earlier statement of the account of an entry. */

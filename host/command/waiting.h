@@ -41,14 +41,14 @@ void forget_waiting(struct waiting *waiting);
 
 /* Opens and reads one of them again. False with a message where it cannot be read, or is not the one that it was. What
  * it keeps is the caller's to let go, and the descriptor to close. */
-bool open_waiting(const struct waiting_file *file, struct input *input, int *descriptor);
+bool open_waiting(struct waiting_file *file, struct input *input, int *descriptor);
 
 /* A file that has not been moved and has an earlier statement of the account that an entry of this file begins; NULL
  * where there is none. */
 const struct waiting_file *waits_behind(const struct waiting *waiting, const struct waiting_file *file,
                                         const struct entry *entry);
 
-/* Whether it has been written to since the run began. */
+/* Whether it has been written to since it was opened so. */
 bool was_changed(const struct waiting_file *file, int descriptor);
 
 #endif

@@ -4,7 +4,7 @@ use mathlib.Core.List.{List}
 use Prim.Native.Nat.{ℕ}
 use lib.ListN.{length}
 use lib.IntN.{ℤ}
-use Rattle.packing.specs.Packing.{aIn, packed, numberIn, recordIn, valueIn}
+use Rattle.packing.specs.Packing.{aIn, packed, refusalIn, recordIn, valueOrZero}
 use Rattle.cash.specs.declared.Outcome.{Outcome}
 use Rattle.cash.specs.declared.Outcome.the-variants.{Filled, Refused}
 use Rattle.cash.specs.Spans.{laterDay}
@@ -26,7 +26,7 @@ packedPosition p = packed (p .number) (p .at) (p .days) 0 0
 
 -- and back, from the bits
 abbrev pub paperPositionIn : ℕ → PaperPosition
-paperPositionIn n = record { number = numberIn n; at = recordIn n; days = valueIn n (aIn n) }
+paperPositionIn n = record { number = refusalIn n; at = recordIn n; days = valueOrZero n (aIn n) }
 
 -- position
 pub record Positions (j x : List ℕ) (first last : ℕ) (t : List ℤ) (r : Outcome) (t′ : List ℤ) : Type 0 where

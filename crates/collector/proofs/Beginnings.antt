@@ -14,7 +14,7 @@ use Rattle.contents.specs.Earliest.{earliestOf, beginningBy, beginningOf}
 use Rattle.contents.specs.declared.Beginning.the-variants as B
 use Rattle.contents.proofs.Begun.{earliest-told}
 use Rattle.contents.specs.Answers.{paperBeginning}
-use Rattle.collector.specs.Packing.{packedBeginning, dayIn}
+use Rattle.collector.specs.Packing.{packedBeginning, packedDay}
 use Rattle.collector.specs.Bounds.{lastDay}
 use Rattle.collector.specs.Answers.{form, earliestAnswer, CheckNumber, EarliestNumber}
 use Rattle.collector.proofs.Bounds.{check-bounds, earliest-bounds}
@@ -48,7 +48,7 @@ module _ (e : ℕ) (b : List ℕ) where
       )
 
   -- else the day is the earliest old date of the file's statements
-  pub earliest-number : {n : ℕ} {ss : List Statement} → Reads july (form e) b ss → EarliestNumber e b n → (kindIn n ≡ 0) × (dayIn n ≡ earliestOf ss)
+  pub earliest-number : {n : ℕ} {ss : List Statement} → Reads july (form e) b ss → EarliestNumber e b n → (kindIn n ≡ 0) × (packedDay n ≡ earliestOf ss)
   earliest-number {n} {ss} r g =
       let k : earliestOf ss ≤ lastDay = rw (earliest-told r) at (earliest-bounds (form e) b) in
       let z : n ≡ earliestOf ss = g .answer ∙ ap (λ a. packedBeginning (paperBeginning a)) (earliest-told r) ∙ omega arith in

@@ -36,7 +36,7 @@ use Rattle.journal.specs.declared.Delivery.{Delivery}
 use Rattle.journal.specs.declared.Delivery.the-variants as D
 use Rattle.journal.specs.Answers.{paperDelivery, deliveryBy}
 use Rattle.journal.proofs.Paper as J
-use Rattle.collector.specs.Packing.{packedCheck, packedOpening, packedDelivery, packedEntry, packedUsage, packedLength, packedBeginning, paperCheckIn, paperOpeningIn, paperDeliveryIn, paperPlaceIn, paperUsageIn, paperLengthIn, dayIn, paperBeginningIn}
+use Rattle.collector.specs.Packing.{packedCheck, packedOpening, packedDelivery, packedEntry, packedUsage, packedLength, packedBeginning, paperCheckIn, paperOpeningIn, paperDeliveryIn, paperPlaceIn, paperUsageIn, paperLengthIn, packedDay, paperBeginningIn}
 use Rattle.collector.specs.Bounds.{Refusal, Counted, Told, Body, Lines, Filled, CheckBounds, OpeningBounds, DeliveryBounds, EntryBounds, ListedBounds, UsageBounds, LengthBounds, lastDay, BeginningBounds}
 use Rattle.collector.specs.Answers.{form, checkAnswer, openAnswer, deliverAnswer, listedAnswer, lengthAnswer, earliestAnswer, CheckNumber, OpenNumber, DeliverNumber, EntryNumber, UsedNumber, ListedNumber, LengthNumber, EarliestNumber}
 use Rattle.collector.proofs.Bounds.{check-bounds, opening-bounds, delivery-bounds, entry-bounds, listed-bounds, usage-bounds, length-bounds, earliest-bounds}
@@ -144,7 +144,7 @@ length-back (F.Refused n) k = let f = refusal-fits k in rw (numbered k, kind-bac
 pub beginning-back : (r : Beginning) → BeginningBounds r → paperBeginningIn (packedBeginning (paperBeginning r)) ≡ paperBeginning r
 beginning-back (B.On d) k =
     let f = day-fits k in
-    let y : dayIn (packedBeginning (paperBeginning (B.On d))) ≡ d = omega arith in
+    let y : packedDay (packedBeginning (paperBeginning (B.On d))) ≡ d = omega arith in
     rw (kind-back f) (ap (λ (x : ℕ). paperBeginning (B.On x)) y)
 beginning-back (B.Refused n r) k = let f = refusal-fits k in rw (numbered k, kind-back f, a-back f, b-back f)
 

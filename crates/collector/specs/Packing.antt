@@ -4,7 +4,7 @@
 -- records and first body line, listed or not; the entries used, the body lines used and those in all; the records of a file of some length; the low 20 bits of the
 -- day that a file begins on, and those above them.
 use Prim.Native.Nat.{ℕ, _-_, _*_, _/_, _%_}
-use Rattle.packing.specs.Packing.{bit20, bit40, aIn, bIn, cIn, packed, numberIn, recordIn, valueIn}
+use Rattle.packing.specs.Packing.{bit20, bit40, aIn, bIn, cIn, packed, refusalIn, recordIn, valueOrZero}
 use Rattle.records.specs.July.{recordSize}
 use Rattle.framing.specs.Answers.{PaperFrame}
 use Rattle.statements.specs.Answers.{Paper}
@@ -42,44 +42,44 @@ packedBeginning p = packed (p .number) (p .at) (p .day % bit20) (p .day / bit20)
 abbrev pub paperCheckIn : ℕ → Paper
 paperCheckIn n =
     record {
-      number = numberIn n;
+      number = refusalIn n;
       at = recordIn n;
-      statements = valueIn n (aIn n);
-      movements = valueIn n (bIn n);
-      complements = valueIn n (cIn n);
+      statements = valueOrZero n (aIn n);
+      movements = valueOrZero n (bIn n);
+      complements = valueOrZero n (cIn n);
     }
 
 abbrev pub paperOpeningIn : ℕ → ℕ × ℕ
-paperOpeningIn n = (numberIn n, recordIn n)
+paperOpeningIn n = (refusalIn n, recordIn n)
 
 abbrev pub paperDeliveryIn : ℕ → PaperDelivery
-paperDeliveryIn n = record { number = numberIn n; at = recordIn n; stored = valueIn n (aIn n); held = valueIn n (bIn n) }
+paperDeliveryIn n = record { number = refusalIn n; at = recordIn n; stored = valueOrZero n (aIn n); held = valueOrZero n (bIn n) }
 
 abbrev pub paperPlaceIn : ℕ → PaperPlace
 paperPlaceIn n =
     record {
-      number = numberIn n;
+      number = refusalIn n;
       at = recordIn n;
-      first = valueIn n (lineAt (bIn n));
-      len = valueIn n (recordSize * aIn n);
+      first = valueOrZero n (lineAt (bIn n));
+      len = valueOrZero n (recordSize * aIn n);
     }
 
 abbrev pub paperUsageIn : ℕ → PaperUsage
 paperUsageIn n =
     record {
-      number = numberIn n;
+      number = refusalIn n;
       at = recordIn n;
-      entries = valueIn n (aIn n);
-      used = valueIn n (bIn n);
-      lines = valueIn n (cIn n);
+      entries = valueOrZero n (aIn n);
+      used = valueOrZero n (bIn n);
+      lines = valueOrZero n (cIn n);
     }
 
 abbrev pub paperLengthIn : ℕ → PaperFrame
-paperLengthIn n = record { number = numberIn n; at = recordIn n; records = valueIn n (aIn n) }
+paperLengthIn n = record { number = refusalIn n; at = recordIn n; records = valueOrZero n (aIn n) }
 
 -- the day is the number in the bits 0 to 39
-abbrev pub dayIn : ℕ → ℕ
-dayIn n = n % bit40
+abbrev pub packedDay : ℕ → ℕ
+packedDay n = n % bit40
 
 abbrev pub paperBeginningIn : ℕ → PaperBeginning
-paperBeginningIn n = record { number = numberIn n; at = recordIn n; day = valueIn n (dayIn n) }
+paperBeginningIn n = record { number = refusalIn n; at = recordIn n; day = valueOrZero n (packedDay n) }

@@ -6,4 +6,5 @@ pub mod Months
 pub mod Ordinals
 pub mod Calendar
 pub mod Examples
+pub mod Paper
 pub mod One

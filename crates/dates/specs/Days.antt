@@ -50,7 +50,7 @@ dateOf s =
     (dayOf (yearOf (valueOf (take 2 (drop 4 s)))) (valueOf (take 2 (drop 2 s))) (valueOf (take 2 s)))
     NoDay
 
--- 9, or no refusal and the number
+-- 9, or no refusal and the number; of what is no six digits 8 is given before, by the zone's own test
 abbrev pub paperDate : Date → ℕ × ℕ
 paperDate (Day k) = (0, k)
 paperDate NoDay = (9, 0)

@@ -72,7 +72,7 @@ module _ (C : Coding) where
   unfoldable pub canonical : Form → List ℕ → List ℕ
   canonical f b = flat (map canonPiece (pieces f b)) ++ drop (countOf (C .size) f b * widthOf (C .size) f) b
 
-  -- a file of another form: its records as they stand, each followed by the line end of g
+  -- the file b of form f in the form g: its records as they stand, each followed by the line end of g
   unfoldable pub relined : (f g : Form) → List ℕ → List ℕ
   relined f g b = fileOf g (map (take (C .size)) (pieces f b))
 

@@ -4,7 +4,7 @@ use mathlib.Core.Bool.{true}
 use mathlib.Core.List.{List, [], _∷_, _++_}
 use Prim.Native.Nat.{ℕ, suc, _+_, _-_, _*_, _<_, _≤_}
 use native.Mathlib.Omega.{arith}
-use lib.ListN.{length, getD, replicate, replicate-append-replicate}
+use lib.ListN.{length, getD, replicate, length-replicate, replicate-append-replicate}
 use Rattle.zones.specs.Pieces.{flat}
 use Rattle.framing.specs.declared.Form.{Form}
 use Rattle.framing.specs.Files.{All}
@@ -20,9 +20,9 @@ use Rattle.entries.specs.Entries.{tableSize}
 use Rattle.journal_layout.specs.Layout.{mostLines, isLength, linesOf, entriesOf, bodiesOf, journalOf, Journal, openedOf}
 use Rattle.journal_layout.proofs.Testing.{is-long}
 use Rattle.journal_layout.proofs.Exact.{journal-length, journal-sound, journal-list}
-use Rattle.journal.specs.Delivery.{delivered, refused, run, linesIn, outcomeBy, outcomeOf, contentBy, contentOf}
+use Rattle.journal.specs.Delivery.{Outcome, delivered, refused, run, linesIn, outcomeBy, outcomeOf, contentBy, contentOf}
 use Rattle.journal.specs.Arrivals.{arrivals}
-use Rattle.journal.proofs.Runs.{Kept, kept, ran, kept-journal}
+use Rattle.journal.proofs.Runs.{Kept, kept, ran, kept-journal, kept-length}
 
 -- each statement of an accepted file can be written
 pub file-writable : {f : Form} {b : List ℕ} {ss : List Statement} → Reads july f b ss → All (Writable july) ss
@@ -59,6 +59,7 @@ module _ {j : List ℕ} {H : List Statement} (g : Journal j H) (f : Form) (b : L
     pub stores : x ≡ length (arrivals H (statementsOf july f b))
     pub all : x + y ≡ length (statementsOf july f b)
     pub journal : Journal (contentOf j f b) L
+    pub long : length (contentOf j f b) ≡ length j
 
   pub stored : {L : List Statement} {x y : ℕ} → outcomeOf j f b ≡ delivered L x y → Stored L x y
   unfolding contentOf
@@ -78,6 +79,7 @@ module _ {j : List ℕ} {H : List Statement} (g : Journal j H) (f : Form) (b : L
             stores = omega arith;
             all = omega arith;
             journal = rw e (kept-journal l (m .kept));
+            long = rw e (kept-length l (m .kept) ∙ sym (journal-length g ∙ rw (lines-are g)));
           }
       by (G.refused n k) q o = absurd (let z : _≡_ {A = ℕ} 0 1 = cc in omega arith)
 
@@ -85,6 +87,19 @@ module _ {j : List ℕ} {H : List Statement} (g : Journal j H) (f : Form) (b : L
   pub unchanged : {n k : ℕ} → outcomeOf j f b ≡ refused n k → contentOf j f b ≡ j
   unfolding contentOf
   unchanged e = ap (contentBy j) e
+
+  -- a delivery keeps the journal's length, whatever it answers
+  pub content-long : length (contentOf j f b) ≡ length j
+  content-long = by (outcomeOf j f b) refl
+    where
+      by : (o : Outcome) → outcomeOf j f b ≡ o → length (contentOf j f b) ≡ length j
+      by (delivered L x y) e = stored e .long
+      by (refused n k) e = ap length (unchanged e)
+
+-- so does opening
+pub opened-long : (j : List ℕ) → isLength (length j) ≡ true → length (openedOf j) ≡ length j
+unfolding openedOf
+opened-long j h = rw h (length-replicate {A = ℕ} (length j) 32)
 
 -- opening leaves a journal of no statement
 pub opened : (j : List ℕ) → isLength (length j) ≡ true → Journal (openedOf j) []

@@ -2,7 +2,7 @@
 use mathlib.Core.Path.{_≡_, refl, sym, _∙_}
 use mathlib.Core.Bool.{Bool, true, false}
 use mathlib.Core.List.{List, [], _∷_, _++_, append-assoc, append-nil}
-use Prim.Native.Nat.{ℕ, _+_, _-_, _≤_}
+use Prim.Native.Nat.{ℕ, _+_, _-_, _*_, _≤_}
 use native.Mathlib.Omega.{arith}
 use lib.Dec.{leb, ltb}
 use lib.ListN.{length, length-append}
@@ -11,15 +11,15 @@ use Rattle.framing.specs.Files.{All}
 use Rattle.grammar.specs.Statements.{Statement}
 use Rattle.grammar.specs.Files.{Writable}
 use Rattle.grammar.specs.Parts.{sizeOf}
-use Rattle.records.specs.July.{july}
-use Rattle.entries.specs.Entries.{mostEntries}
+use Rattle.records.specs.July.{recordSize, july}
+use Rattle.entries.specs.Entries.{mostEntries, tableSize}
 use Rattle.journal_layout.specs.declared.Judgement.{Judgement}
 use Rattle.journal_layout.specs.declared.Judgement.the-variants.{Held, First, After}
 use Rattle.journal_layout.specs.Chains.{heldAmong, lastAmong, judgementOf, followsBy, follows}
 use Rattle.journal_layout.specs.Layout.{mostLines, linesOf, journalOf, Keepable, Journal}
 use Rattle.journal_layout.proofs.Chain.{Row, row-snoc, row-distinct, row-chained, row-of}
 use Rattle.journal_layout.proofs.Adding.{lines-append, all-append}
-use Rattle.journal_layout.proofs.Exact.{one-lines}
+use Rattle.journal_layout.proofs.Exact.{one-lines, journal-length}
 use Rattle.journal.specs.Delivery.{Verdict, hold, store, refuse, verdictBy, verdictOf, delivered, refused, proceed, run}
 use Rattle.journal.specs.Arrivals.{arrivals}
 use Rattle.journal.proofs.Values.{not-held, has-room}
@@ -150,3 +150,8 @@ kept-journal {n} {ss} m k =
       layout = refl;
       kept = record { few = k .few; room = k .room; alone = k .alone; distinct = row-distinct [] ss (k .row) tt; chained = λ x. row-chained x [] ss (k .row) tt };
     }
+
+-- it is as long as its lines ask for
+pub kept-length : {n : ℕ} {ss : List Statement} → n ≤ mostLines → Kept n ss → length (journalOf n ss) ≡ tableSize + recordSize * n
+unfolding kept-journal
+kept-length m k = journal-length (kept-journal m k)

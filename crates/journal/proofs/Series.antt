@@ -28,7 +28,7 @@ use Rattle.journal.specs.Arrivals.{arrivals, movementsIn, Summed}
 use Rattle.journal.specs.Series.{Event, deliver, Deliver, acceptedBy, after, accepted, heldAfter, WhollyHeld, Demand3}
 use Rattle.journal.proofs.Values.{held-append}
 use Rattle.journal.proofs.Runs.{held-verdict}
-use Rattle.journal.proofs.Delivered.{lines-are, outcome-by, Stored, stored, unchanged, opened}
+use Rattle.journal.proofs.Delivered.{lines-are, outcome-by, Stored, stored, unchanged, content-long, opened-long, opened}
 
 -- ---- arrivals
 
@@ -68,6 +68,12 @@ series {j} {H} g (deliver f b ∷ es) =
     let A = acceptedBy (answerOf (outcomeOf j f b)) (statementsOf july f b) in
     let B = accepted ours (contentOf j f b) es in
     rw (arrivals-append H A B, ← append-assoc H (arrivals H A) (arrivals (H ++ arrivals H A) B)) (series (one-more g f b) es)
+
+-- it keeps the journal's length
+series-long : {j : List ℕ} {H : List Statement} → Journal j H → (es : List Event) → length (after ours j es) ≡ length j
+unfolding after
+series-long g [] = refl
+series-long g (deliver f b ∷ es) = series-long (one-more g f b) es ∙ content-long g f b
 
 -- ---- the sum of an account's movements
 
@@ -198,6 +204,7 @@ pub demand3 : Demand3 openedOf ours
 demand3 =
     record {
       holds = from-opening;
+      room = λ j h es. series-long (opened j h) es ∙ opened-long j h;
       distinct = λ j h es. from-opening j h es .kept .distinct;
       chained = λ j h es k. from-opening j h es .kept .chained k;
       summed = λ j h es k. journal-summed (from-opening j h es) k;

@@ -2,7 +2,7 @@
 use mathlib.Core.Path.{_≡_, refl, sym, ap, _∙_}
 use mathlib.Core.Bool.{Bool, true, false}
 use mathlib.Core.List.{List, [], _∷_, append-nil}
-use Prim.Native.Nat.{ℕ, _-_, _/_}
+use Prim.Native.Nat.{ℕ, _-_, _/_, _≤_}
 use native.Mathlib.Omega.{arith}
 use lib.ListN.{length, replicate, length-replicate}
 use Rattle.zones.specs.Choice.{pick}
@@ -20,14 +20,15 @@ use Rattle.records.proofs.Small.{form, nil-crlf, two, lone, february, march, ni
 use Rattle.bodies.specs.Bodies.{identical}
 use Rattle.entries.specs.Entries.{tableSize, lineAt}
 use Rattle.journal_layout.specs.Chains.{heldAmong, lastAmong, judgementOf, Chained, ofAccount}
-use Rattle.journal_layout.specs.Layout.{isLength, linesOf, journalOf, Journal, openedOf}
-use Rattle.journal_layout.proofs.Exact.{sound-unique}
+use Rattle.journal_layout.specs.Layout.{mostLines, isLength, linesOf, journalOf, Journal, openedOf}
+use Rattle.journal_layout.proofs.Exact.{sound-unique, journal-length}
+use Rattle.journal.specs.declared.Delivery.{Delivery}
 use Rattle.journal.specs.declared.Delivery.the-variants.{Done, Refused}
 use Rattle.journal.specs.Delivery.{verdictOf, delivered, run, linesIn, outcomeOf, contentOf}
 use Rattle.journal.specs.Answers.{Delivers}
 use Rattle.journal.specs.Arrivals.{arrivals}
 use Rattle.journal.specs.Series.{deliver, Deliver, after, accepted, Demand3}
-use Rattle.journal.proofs.Delivered.{file-writable, outcome-by, opened}
+use Rattle.journal.proofs.Delivered.{file-writable, outcome-by, opened-long, opened}
 use Rattle.journal.proofs.Accounts.{identical-equal}
 use Rattle.journal.proofs.Paper.{delivers}
 
@@ -43,9 +44,8 @@ room-right : isLength (length room) ≡ true
 unfolding isLength
 room-right = rw room-long
 
-opened-long : length (openedOf room) ≡ lineAt 4
-unfolding openedOf
-opened-long = rw room-right (length-replicate {A = ℕ} (length room) 32 ∙ room-long)
+four-lines : linesIn (openedOf room) ≡ 4
+four-lines = ap (λ (k : ℕ). (k - tableSize) / recordSize) (opened-long room room-right ∙ room-long)
 
 -- the two periods are not identical
 two-differ : identical february march ≡ false
@@ -58,21 +58,27 @@ two-differ = by (identical february march) refl
         absurd (omega arith)
     by false e = e
 
--- by the rules both are stored
+-- by the rules the one statement is stored, and both of two are
+pub right-nil : Delivers (openedOf room) (form 1) nil (Done 1 0) (journalOf 4 (february ∷ []))
+unfolding contentOf run verdictOf judgementOf heldAmong lastAmong linesOf sizes
+right-nil =
+    let o : outcomeOf (openedOf room) (form 1) nil ≡ delivered (february ∷ []) 1 0 =
+    outcome-by (opened room room-right) (form 1) nil ∙ rw (nil-accepted, nil-holds, four-lines) in
+    delivers (rw o) (rw (o, four-lines))
+
 pub right-two : Delivers (openedOf room) (form 1) two (Done 2 0) (journalOf 4 (february ∷ march ∷ []))
 unfolding contentOf run verdictOf judgementOf heldAmong lastAmong linesOf sizes sameKey sameBytes
 right-two =
-    let n : linesIn (openedOf room) ≡ 4 = ap (λ (k : ℕ). (k - tableSize) / recordSize) opened-long in
     let o : outcomeOf (openedOf room) (form 1) two ≡ delivered (february ∷ march ∷ []) 2 0 =
-    outcome-by (opened room room-right) (form 1) two ∙ rw (two-accepted, two-hold, n, two-differ) in
-    delivers (rw o) (rw (o, n))
+    outcome-by (opened room room-right) (form 1) two ∙ rw (two-accepted, two-hold, four-lines, two-differ) in
+    delivers (rw o) (rw (o, four-lines))
 
 -- a journal of the first alone
-february-alone : Journal (journalOf 4 (february ∷ [])) (february ∷ [])
+february-alone : (n : ℕ) → 2 ≤ n → n ≤ mostLines → Journal (journalOf n (february ∷ [])) (february ∷ [])
 unfolding linesOf sizes ofAccount
-february-alone =
+february-alone n few most =
     record {
-      lines = 4;
+      lines = n;
       most = omega arith;
       layout = refl;
       kept =
@@ -89,6 +95,10 @@ february-alone =
     by true = tt
     by false = tt
 
+two-lines-long : length (journalOf 2 (february ∷ [])) ≡ lineAt 2
+unfolding february-alone
+two-lines-long = journal-length (february-alone 2 (omega arith) (omega arith))
+
 -- delivered is not refused
 done-refused : {s h n r : ℕ} → Done s h ≡ Refused n r → ⊥
 done-refused e = let z : _≡_ {A = ℕ} 0 1 = cc in omega arith
@@ -102,7 +112,7 @@ module _ {O : List ℕ → List ℕ} {D : Deliver} (d : Demand3 O D) where
     must-hold = rw (done, append-nil (statementsOf july f b)) at (d .holds j right (deliver f b ∷ []))
 
     -- the journal is not as it was where the file has a statement
-    not-unchanged : {s : Statement} {ss : List Statement} → statementsOf july f b ≡ s ∷ ss → D (O j) f b .journal ≡ O j → ⊥
+    pub not-unchanged : {s : Statement} {ss : List Statement} → statementsOf july f b ≡ s ∷ ss → D (O j) f b .journal ≡ O j → ⊥
     unfolding after accepted arrivals heldAmong
     not-unchanged {s} {ss} e n =
         let h : Journal (O j) [] = d .holds j right [] in
@@ -112,7 +122,7 @@ module _ {O : List ℕ → List ℕ} {D : Deliver} (d : Demand3 O D) where
         omega arith
 
     -- and does not hold the first alone where another follows
-    not-the-first : {s t : Statement} {ss : List Statement} → statementsOf july f b ≡ s ∷ t ∷ ss → identical s t ≡ false → Journal (D (O j) f b .journal) (s ∷ []) → ⊥
+    pub not-the-first : {s t : Statement} {ss : List Statement} → statementsOf july f b ≡ s ∷ t ∷ ss → identical s t ≡ false → Journal (D (O j) f b .journal) (s ∷ []) → ⊥
     unfolding arrivals heldAmong
     not-the-first {s} {t} {ss} e n h =
         let g : Journal (D (O j) f b .journal) (s ∷ t ∷ arrivals (s ∷ t ∷ []) ss) = rw (e, n) at must-hold in
@@ -120,7 +130,7 @@ module _ {O : List ℕ → List ℕ} {D : Deliver} (d : Demand3 O D) where
         omega arith
 
     -- the check does not refuse it
-    not-refused : {n r : ℕ} → checkOf july f b ≡ refused n r → ⊥
+    pub not-refused : {n r : ℕ} → checkOf july f b ≡ refused n r → ⊥
     unfolding after
     not-refused e =
         let c = T.counts (d .reads j right [] f b x y done) in
@@ -134,7 +144,15 @@ module _ {O : List ℕ → List ℕ} {D : Deliver} (d : Demand3 O D) where
   -- one that stores only the first of two statements
   pub only-the-first : (s h : ℕ) → D (O room) (form 1) two ≡ record { answer = Done s h; journal = journalOf 4 (february ∷ []) } → ⊥
   only-the-first s h e =
-      not-the-first room room-right (form 1) two (ap (λ a. a .answer) e) two-hold two-differ (rw e february-alone)
+      not-the-first room room-right (form 1) two (ap (λ a. a .answer) e) two-hold two-differ (rw e (february-alone 4 (omega arith) (omega arith)))
+
+  -- one that cuts off the lines that are free, whatever it answers
+  pub cuts-the-room : (a : Delivery) → D (O room) (form 1) nil ≡ record { answer = a; journal = journalOf 2 (february ∷ []) } → ⊥
+  unfolding after
+  cuts-the-room a e =
+      let l = d .room room room-right (deliver (form 1) nil ∷ []) in
+      let c : length (journalOf 2 (february ∷ [])) ≡ length room = ap (λ x. length (x .journal)) (sym e) ∙ l in
+      omega (arith, two-lines-long, room-long)
 
   -- one that makes up its two counts
   pub made-up-counts : (s h : ℕ) → (Done s h ≡ Done 2 0 → ⊥) → D (O room) (form 1) two .answer ≡ Done s h → ⊥

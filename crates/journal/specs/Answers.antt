@@ -28,7 +28,7 @@ abbrev pub paperDelivery : Delivery → PaperDelivery
 paperDelivery (Done s h) = record { number = 0; at = 0; stored = s; held = h }
 paperDelivery (Refused n r) = record { number = n; at = r; stored = 0; held = 0 }
 
--- number, record, and of a statement found: 1 where the journal holds it and 2 where the file does, first byte, length, line-end number; bodies have none
+-- number, record, and of a statement found: 1 where the journal holds it and 2 where the file does, first byte, length, line-end number, 0 for the journal, whose bodies have no line ends
 pub record PaperNewest : Type 0 where
   pub number : ℕ
   pub at : ℕ

@@ -47,12 +47,12 @@ newestAmong f k held sent =
     pick (ltb 0 p) (InFile (x .first) (x .len) (lineEnd f))
     (pick (ltb 0 e) (InJournal (lineAt (recordsBefore (e - 1) held)) (recordSize * sizeOf (getD held (e - 1) noStatement))) (Refused 25 0))
 
--- the delivery's refusals come first; no account has a key of another length
+-- the delivery's refusals come first
 abbrev pub newestBy : Outcome → Found → Found
 newestBy (delivered ss s h) x = x
 newestBy (refused n r) x = Refused n r
 
--- THE NEWEST STATEMENT of the account that the bytes x name
+-- THE NEWEST STATEMENT of the account that the bytes x name; no account has a key of another length
 unfoldable pub newestOf : List ℕ → Form → List ℕ → List ℕ → Found
 newestOf j f b x =
     newestBy (outcomeOf j f b)

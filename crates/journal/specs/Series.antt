@@ -56,6 +56,8 @@ WhollyHeld D j f b ss = D j f b ≡ record { answer = Done 0 (length ss); journa
 pub record Demand3 (O : List ℕ → List ℕ) (D : Deliver) : Type 0 where
   -- it holds the statements of the accepted files, in order of first arrival
   pub holds : (j : List ℕ) → isLength (length j) ≡ true → (es : List Event) → Journal (after D (O j) es) (heldAfter D (O j) es)
+  -- it is as long as the buffer that was lent
+  pub room : (j : List ℕ) → isLength (length j) ≡ true → (es : List Event) → length (after D (O j) es) ≡ length j
   -- no two identical
   pub distinct : (j : List ℕ) → isLength (length j) ≡ true → (es : List Event) → Distinct (heldAfter D (O j) es)
   -- each account's link, new balance to next old balance

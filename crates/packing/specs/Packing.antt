@@ -56,16 +56,16 @@ abbrev pub packed : (number at a b c : ℕ) → ℕ
 packed number at a b c = pick (eqb number 0) (answered a b c) (refused number at)
 
 -- and back, from the bits alone: number and record, 0 where it answered; a value, 0 where it refused
-abbrev pub numberIn : ℕ → ℕ
-numberIn n = pick (isAnswer n) 0 (bIn n)
+abbrev pub refusalIn : ℕ → ℕ
+refusalIn n = pick (isAnswer n) 0 (bIn n)
 
 abbrev pub recordIn : ℕ → ℕ
 recordIn n = pick (isAnswer n) 0 (aIn n)
 
-abbrev pub valueIn : (n value : ℕ) → ℕ
-valueIn n value = pick (isAnswer n) value 0
+abbrev pub valueOrZero : (n value : ℕ) → ℕ
+valueOrZero n value = pick (isAnswer n) value 0
 
--- the same for any numbers, of which the low 20 bits are taken
+-- answered and refused with any numbers, of which the low 20 bits are taken
 unfoldable pub answeredOf : (a b c : ℕ) → ℕ
 answeredOf a b c = answered (a % bit20) (b % bit20) (c % bit20)
 

@@ -56,8 +56,9 @@ struct Waiting<'a> {
     name: &'a str,
     bytes: &'a [u8],
     line_end: u64,
-    /// The earliest old balance date of each account in it, by key; none for a refused file.
-    earliest: BTreeMap<Vec<u8>, u32>,
+    /// Of each account in it the earliest statement's old balance date, of those of one date the
+    /// earliest new one beside it, by key; none for a refused file.
+    earliest: BTreeMap<Vec<u8>, (u32, u32)>,
 }
 
 impl<'a> Waiting<'a> {
@@ -65,9 +66,9 @@ impl<'a> Waiting<'a> {
         let line_end = found_line_end(&file.bytes);
         let mut earliest = BTreeMap::new();
         for statement in statements(line_end, &file.bytes).unwrap_or_default() {
-            let date = statement.head.old_date;
-            let first = earliest.entry(statement.head.key.bytes()).or_insert(date);
-            *first = date.min(*first);
+            let dates = (statement.head.old_date, statement.head.new_date);
+            let first = earliest.entry(statement.head.key.bytes()).or_insert(dates);
+            *first = dates.min(*first);
         }
         Waiting {
             name: &file.name,
@@ -79,12 +80,12 @@ impl<'a> Waiting<'a> {
 
     /// The earliest of all its dates, 0 where it has none.
     fn date(&self) -> u32 {
-        self.earliest.values().copied().min().unwrap_or(0)
+        self.earliest.values().map(|dates| dates.0).min().unwrap_or(0)
     }
 
-    /// Whether it has an earlier statement of that account than one of that date.
-    fn is_before(&self, key: &[u8], date: u32) -> bool {
-        self.earliest.get(key).map_or(false, |&first| first < date)
+    /// Whether it has an earlier statement of that account than one of these dates.
+    fn is_before(&self, key: &[u8], dates: (u32, u32)) -> bool {
+        self.earliest.get(key).map_or(false, |&first| first < dates)
     }
 }
 
@@ -160,7 +161,7 @@ fn is_held_back(file: &Waiting, waiting: &[Waiting], journal: &[u8]) -> bool {
     let later = file
         .earliest
         .iter()
-        .filter(|(key, &date)| waiting.iter().any(|other| other.is_before(key, date)));
+        .filter(|(key, &dates)| waiting.iter().any(|other| other.is_before(key, dates)));
     let keys: Vec<&Vec<u8>> = later.map(|(key, _)| key).collect();
     !keys.is_empty() && {
         let list = held(journal).expect("the journal of a night is sound");

@@ -414,6 +414,18 @@ fn two_copies() {
     assert_holds(&night, &[both]);
 }
 
+/// Of two statements that begin on one day the one that ends earlier comes first.
+#[test]
+fn of_one_day_the_shorter_first() {
+    let opening = period(A, ENDS[JANUARY], ENDS[JANUARY]);
+    let january = month(A, JANUARY);
+    let files = [("a", january.clone()), ("b", opening.clone())];
+    let night = run(&journal(9, &[]), &files);
+    assert_eq!(night.rounds, [1, 1]);
+    assert_eq!(night.fates["a"], done(1, 0));
+    assert_holds(&night, &[opening, january]);
+}
+
 /// An account that the journal knows is not held back: December waits in vain, February follows.
 /// What does not follow is refused, though an earlier file waits.
 #[test]
