@@ -48,8 +48,7 @@ bool same_account(const struct entry *one, const struct entry *other);
 bool has_account(const struct entry *entries, size_t count, const struct entry *entry);
 bool begins_before(const struct entry *one, const struct entry *other);
 
-/* The first entry of each account that the last so many entries of a sound journal have begun; answers their number.
- */
+/* The first entry of each account that the last so many entries of a sound journal have begun; their number. */
 size_t begun_by(const struct bytes *journal, size_t stored, struct entry begun[CROWNHAZEL_MOST_ENTRIES]);
 
 /* An account: its first and its last entry, counted from 0, and how many it has. */

@@ -42,9 +42,8 @@ static int elsewhere(const struct folder *folder, const struct folder *incoming)
     return STATUS_USAGE;
 }
 
-/* The three are apart, on one file system, and the journal stands in none of them: it would be judged as a file, or get
- * one for its lock.
- */
+/* The three are apart, on one file system, and the journal stands in none of them: it would be judged as a file, or a
+ * file would get the name of its lock. */
 static int look_at(const struct folders *folders, const struct place *journal) {
     struct stat incoming, done, refused, around;
     if (fstat(folders->incoming.descriptor, &incoming) != 0 || fstat(folders->done.descriptor, &done) != 0 ||

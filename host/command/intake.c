@@ -22,7 +22,7 @@ struct night {
     const char *journal;
     struct folders folders;
     struct waiting waiting;
-    struct contents before;                      /* what the journal held when the run began */
+    struct contents before;                      /* what the journal held when the round began */
     size_t delivered;                            /* files that the journal holds */
     size_t done, refused;                        /* files */
     uint64_t stored, held;                       /* statements */
@@ -79,11 +79,10 @@ static void write_answer(FILE *out, const void *what) {
             crownhazel_record(*refusal), crownhazel_words(crownhazel_refusal(*refusal)));
 }
 
-/* Where a refused file went, in words; empty where it was not moved. The caller's to free, NULL where there is no
- * memory. */
+/* Where a refused file went, in words, which are the caller's to free; NULL where there is no memory. */
 static char *words_of_move(const char *moved) {
     char *words = NULL;
-    return asprintf(&words, "%s%s", moved == NULL ? "it is left in place" : "moved to ", moved == NULL ? "" : moved) < 0
+    return asprintf(&words, "%s%s", moved == NULL ? "it was not moved" : "moved to ", moved == NULL ? "" : moved) < 0
                ? NULL
                : words;
 }
@@ -158,7 +157,7 @@ static bool is_known(const struct night *night, const struct entry *entry) {
 }
 
 /* The file that another one has to wait for: with it an account would begin that has an earlier statement there, which
- * could never be stored then. NULL where there is none; `account` is that of the account otherwise. */
+ * could never be stored then. NULL where there is none; else `account` is the entry with which it would begin. */
 static const struct waiting_file *find_behind(const struct night *night, const struct waiting_file *file,
                                               const struct entry **account) {
     const struct waiting_file *behind = NULL;
@@ -251,7 +250,7 @@ static int tell_totals(const struct night *night) {
     return status;
 }
 
-/* A file that was put away unread by the journal may have been the first of an account that has begun without it. */
+/* A file that the journal does not hold may have the first statement of an account that has begun without it. */
 static void warn(const struct night *night) {
     size_t passed = night->waiting.count - night->delivered;
     if (night->begun_count > 0 && passed > 0) {
