@@ -25,7 +25,7 @@ use Rattle.journal.specs.declared.Delivery.the-variants.{Done}
 use Rattle.journal.specs.Delivery.{Outcome, delivered, refused, run, linesIn, outcomeOf, contentOf}
 use Rattle.journal.specs.Answers.{answerOf, Delivers}
 use Rattle.journal.specs.Arrivals.{arrivals, movementsIn, Summed}
-use Rattle.journal.specs.Series.{Event, deliver, Deliver, acceptedBy, after, accepted, heldAfter, WhollyHeld, Demand3}
+use Rattle.journal.specs.Series.{Event, deliver, Deliver, acceptedBy, afterOne, after, heldAfterOne, heldFrom, heldAfter, accepted, WhollyHeld, Demand3}
 use Rattle.journal.proofs.Values.{held-append}
 use Rattle.journal.proofs.Runs.{held-verdict}
 use Rattle.journal.proofs.Delivered.{lines-are, outcome-by, Stored, stored, unchanged, content-long, opened-long, opened}
@@ -45,6 +45,27 @@ arrivals-append H (s ∷ A) B = by (heldAmong s H) (arrivals-append H A B) (arri
     by true i j = i
     by false i j = ap (λ l. s ∷ l) (j ∙ rw (append-assoc H (s ∷ []) (arrivals (H ++ (s ∷ [])) A)))
 
+-- ---- any delivery
+
+-- those of the accepted files come behind the statements held before, in order of first arrival
+held-from : (D : Deliver) (j : List ℕ) (H : List Statement) (es : List Event) → heldFrom D j H es ≡ H ++ arrivals H (accepted D j es)
+unfolding heldFrom accepted arrivals
+held-from D j H [] = sym (append-nil H)
+held-from D j H (deliver f b ∷ es) =
+    let A = acceptedBy (D j f b .answer) (statementsOf july f b) in
+    let B = accepted D (D j f b .journal) es in
+    rw (arrivals-append H A B, ← append-assoc H (arrivals H A) (arrivals (H ++ arrivals H A) B)) (held-from D (D j f b .journal) (H ++ arrivals H A) es)
+
+-- IN THE PAPER'S WORDS: the statements held are those of the accepted files, in order of first arrival
+pub held-arrivals : (D : Deliver) (j : List ℕ) (es : List Event) → heldAfter D j es ≡ arrivals [] (accepted D j es)
+held-arrivals D j es = held-from D j [] es
+
+-- a series in two
+after-append : (D : Deliver) (j : List ℕ) (es fs : List Event) → after D j (es ++ fs) ≡ after D (after D j es) fs
+unfolding after
+after-append D j [] fs = refl
+after-append D j (e ∷ es) fs = after-append D (afterOne D j e) es fs
+
 -- ---- this delivery
 
 abbrev ours : Deliver
@@ -60,20 +81,25 @@ one-more {j} {H} g f b = by (outcomeOf j f b) refl
     by (delivered L x y) e = let s = stored g f b e in rw (← s .list) (s .journal)
     by (refused n k) e = rw (append-nil H, unchanged g f b e) g
 
--- a series: what it adds
-series : {j : List ℕ} {H : List Statement} → Journal j H → (es : List Event) → Journal (after ours j es) (H ++ arrivals H (accepted ours j es))
-unfolding after accepted arrivals
-series {j} {H} g [] = rw (append-nil H) g
-series {j} {H} g (deliver f b ∷ es) =
-    let A = acceptedBy (answerOf (outcomeOf j f b)) (statementsOf july f b) in
-    let B = accepted ours (contentOf j f b) es in
-    rw (arrivals-append H A B, ← append-assoc H (arrivals H A) (arrivals (H ++ arrivals H A) B)) (series (one-more g f b) es)
+-- one event: what it leaves
+one-event : {j : List ℕ} {H : List Statement} → Journal j H → (e : Event) → Journal (afterOne ours j e) (heldAfterOne ours j H e)
+one-event g (deliver f b) = one-more g f b
 
--- it keeps the journal's length
+-- a series: what it leaves
+series : {j : List ℕ} {H : List Statement} → Journal j H → (es : List Event) → Journal (after ours j es) (heldFrom ours j H es)
+unfolding after heldFrom
+series g [] = g
+series g (e ∷ es) = series (one-event g e) es
+
+-- an event keeps the journal's length
+event-long : {j : List ℕ} {H : List Statement} → Journal j H → (e : Event) → length (afterOne ours j e) ≡ length j
+event-long g (deliver f b) = content-long g f b
+
+-- so does a series
 series-long : {j : List ℕ} {H : List Statement} → Journal j H → (es : List Event) → length (after ours j es) ≡ length j
 unfolding after
 series-long g [] = refl
-series-long g (deliver f b ∷ es) = series-long (one-more g f b) es ∙ content-long g f b
+series-long g (e ∷ es) = series-long (one-event g e) es ∙ event-long g e
 
 -- ---- the sum of an account's movements
 
@@ -113,6 +139,16 @@ HeldBy L ss = All (λ s. heldAmong s L ≡ true) ss
 held-more : (L M ss : List Statement) → HeldBy L ss → HeldBy (L ++ M) ss
 held-more L M [] h = tt
 held-more L M (s ∷ ss) h = (rw (held-append s L M, h .0), held-more L M ss (h .1))
+
+-- what was held is held after an event
+keeps-held : (D : Deliver) (j : List ℕ) (H ss : List Statement) (e : Event) → HeldBy H ss → HeldBy (heldAfterOne D j H e) ss
+keeps-held D j H ss (deliver f b) h = held-more H (arrivals H (acceptedBy (D j f b .answer) (statementsOf july f b))) ss h
+
+-- and after a series
+ever-held : (D : Deliver) (j : List ℕ) (H ss : List Statement) (es : List Event) → HeldBy H ss → HeldBy (heldFrom D j H es) ss
+unfolding heldFrom
+ever-held D j H ss [] h = h
+ever-held D j H ss (e ∷ es) h = ever-held D (afterOne D j e) (heldAfterOne D j H e) ss es (keeps-held D j H ss e h)
 
 -- a statement is held where it stands
 held-self : (s : Statement) (H M : List Statement) → heldAmong s (H ++ (s ∷ M)) ≡ true
@@ -156,13 +192,6 @@ wholly-held {j} {L} {ss} d g c r h =
     let l : journalOf (linesIn j) L ≡ j = rw (lines-are d) (sym (d .layout)) in
     rw (o, l)
 
--- ---- a series in two
-
-after-append : (D : Deliver) (j : List ℕ) (es fs : List Event) → after D j (es ++ fs) ≡ after D (after D j es) fs
-unfolding after
-after-append D j [] fs = refl
-after-append D j (deliver f b ∷ es) fs = after-append D (D j f b .journal) es fs
-
 -- an answer without a refusal
 pub answered : (o : Outcome) {s h : ℕ} → answerOf o ≡ Done s h → (L : List Statement) × (o ≡ delivered L s h)
 answered (delivered L x y) {s} {h} e = let p : x ≡ s = cc in let q : y ≡ h = cc in (L, rw (p, q))
@@ -184,11 +213,12 @@ module _ (j : List ℕ) (right : isLength (length j) ≡ true) where
         → WhollyHeld ours (after ours (openedOf j) (es ++ (deliver f b ∷ later))) g c (statementsOf july f b)
     unfolding after
     sent-alike later g c r =
+        let J = after ours (openedOf j) es in
         let H = heldAfter ours (openedOf j) es in
         let x = came .1 in
         let q : HeldBy (came .0) (statementsOf july f b) = rw (x .list) (arrived-held H (statementsOf july f b)) in
         rw (after-append ours (openedOf j) es (deliver f b ∷ later))
-        (wholly-held (series (x .journal) later) g c r (held-more (came .0) _ (statementsOf july f b) q))
+        (wholly-held (series (x .journal) later) g c r (ever-held ours (contentOf J f b) (came .0) (statementsOf july f b) later q))
 
     -- so the file with any of the three line ends
     sent-again : (later : List Event) (g : Form) → unknownEnd g ≡ false

@@ -1,7 +1,7 @@
 -- Wrong deliveries, and that demand 3 shuts each of them out: each is caught by a small file, at a journal just opened.
 use mathlib.Core.Path.{_≡_, refl, sym, ap, _∙_}
 use mathlib.Core.Bool.{Bool, true, false}
-use mathlib.Core.List.{List, [], _∷_, append-nil}
+use mathlib.Core.List.{List, [], _∷_}
 use Prim.Native.Nat.{ℕ, _-_, _/_, _≤_}
 use native.Mathlib.Omega.{arith}
 use lib.ListN.{length, replicate, length-replicate}
@@ -27,7 +27,7 @@ use Rattle.journal.specs.declared.Delivery.the-variants.{Done, Refused}
 use Rattle.journal.specs.Delivery.{verdictOf, delivered, run, linesIn, outcomeOf, contentOf}
 use Rattle.journal.specs.Answers.{Delivers}
 use Rattle.journal.specs.Arrivals.{arrivals}
-use Rattle.journal.specs.Series.{deliver, Deliver, after, accepted, Demand3}
+use Rattle.journal.specs.Series.{deliver, Deliver, after, heldFrom, Demand3}
 use Rattle.journal.proofs.Delivered.{file-writable, outcome-by, opened-long, opened}
 use Rattle.journal.proofs.Accounts.{identical-equal}
 use Rattle.journal.proofs.Paper.{delivers}
@@ -108,12 +108,12 @@ module _ {O : List ℕ → List ℕ} {D : Deliver} (d : Demand3 O D) where
   module _ (j : List ℕ) (right : isLength (length j) ≡ true) (f : Form) (b : List ℕ) {x y : ℕ} (done : D (O j) f b .answer ≡ Done x y) where
     -- what must be held after it
     must-hold : Journal (D (O j) f b .journal) (arrivals [] (statementsOf july f b))
-    unfolding after accepted
-    must-hold = rw (done, append-nil (statementsOf july f b)) at (d .holds j right (deliver f b ∷ []))
+    unfolding after heldFrom
+    must-hold = rw done at (d .holds j right (deliver f b ∷ []))
 
     -- the journal is not as it was where the file has a statement
     pub not-unchanged : {s : Statement} {ss : List Statement} → statementsOf july f b ≡ s ∷ ss → D (O j) f b .journal ≡ O j → ⊥
-    unfolding after accepted arrivals heldAmong
+    unfolding after heldFrom arrivals heldAmong
     not-unchanged {s} {ss} e n =
         let h : Journal (O j) [] = d .holds j right [] in
         let g : Journal (O j) (s ∷ arrivals (s ∷ []) ss) = rw (n, e) at must-hold in
@@ -156,7 +156,7 @@ module _ {O : List ℕ → List ℕ} {D : Deliver} (d : Demand3 O D) where
 
   -- one that makes up its two counts
   pub made-up-counts : (s h : ℕ) → (Done s h ≡ Done 2 0 → ⊥) → D (O room) (form 1) two .answer ≡ Done s h → ⊥
-  unfolding after accepted arrivals heldAmong
+  unfolding after heldFrom arrivals heldAmong
   made-up-counts s h n e =
       let c = rw (two-hold, two-differ) at (d .counts room room-right [] (form 1) two s h e) in
       let p : s ≡ 2 = c .0 in

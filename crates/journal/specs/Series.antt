@@ -35,19 +35,32 @@ acceptedBy (Done s h) ss = ss
 acceptedBy (Refused n r) ss = []
 
 module _ (D : Deliver) where
+  -- the journal after one event
+  abbrev pub afterOne : List ℕ → Event → List ℕ
+  afterOne j (deliver f b) = D j f b .journal
+
   -- the journal after a series
   unfoldable pub after : List ℕ → List Event → List ℕ
   after j [] = j
-  after j (deliver f b ∷ es) = after (D j f b .journal) es
+  after j (e ∷ es) = after (afterOne j e) es
 
-  -- the statements of the accepted files of a series, one file after another; accepted means here: delivered without a refusal
+  -- the statements held after one event, where hs were held: those of a file delivered without a refusal come behind them, in order of first arrival
+  abbrev pub heldAfterOne : List ℕ → List Statement → Event → List Statement
+  heldAfterOne j hs (deliver f b) = hs ++ arrivals hs (acceptedBy (D j f b .answer) (statementsOf july f b))
+
+  -- the statements held after a series, where hs were held
+  unfoldable pub heldFrom : List ℕ → List Statement → List Event → List Statement
+  heldFrom j hs [] = hs
+  heldFrom j hs (e ∷ es) = heldFrom (afterOne j e) (heldAfterOne j hs e) es
+
+  -- the same, where none was held
+  abbrev pub heldAfter : List ℕ → List Event → List Statement
+  heldAfter j es = heldFrom j [] es
+
+  -- in the paper's words: the statements of the accepted files of a series, one file after another; accepted means here: delivered without a refusal
   unfoldable pub accepted : List ℕ → List Event → List Statement
   accepted j [] = []
   accepted j (deliver f b ∷ es) = acceptedBy (D j f b .answer) (statementsOf july f b) ++ accepted (D j f b .journal) es
-
-  -- the statements held: those in order of first arrival
-  abbrev pub heldAfter : List ℕ → List Event → List Statement
-  heldAfter j es = arrivals [] (accepted j es)
 
 -- a file of the statements ss is answered as wholly held and changes nothing
 abbrev pub WhollyHeld : Deliver → (j : List ℕ) → Form → (b : List ℕ) → List Statement → Type 0
