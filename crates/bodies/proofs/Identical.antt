@@ -14,20 +14,22 @@ use Rattle.zones.specs.Pieces.{flat}
 use Rattle.zones.proofs.Bools.{and-assoc}
 use Rattle.zones.proofs.Copies.{other-length, same-equal}
 use Rattle.framing.specs.declared.Form.{Form}
-use Rattle.framing.specs.Files.{widthOf, countOf, piecesOf}
+use Rattle.framing.specs.Files.{widthOf, countOf, piecesOf, plain}
 use Rattle.framing.proofs.Cuts.{Wide}
 use Rattle.grammar.specs.Statements.{Statement}
-use Rattle.grammar.specs.Files.{Reads}
+use Rattle.grammar.specs.Files.{Reads, Writable}
 use Rattle.grammar.specs.Parts.{sizeOf}
 use Rattle.grammar.proofs.Canonical.{wide-all}
 use Rattle.grammar.proofs.Exact.{reads-rows}
 use Rattle.grammar.proofs.Trips.{one-records}
 use Rattle.records.specs.July.{recordSize, july, july2004, encodeRecord}
 use Rattle.records.proofs.Lawful.{july-lawful}
+use Rattle.records.proofs.Theorems.{unique}
 use Rattle.readers.proofs.Rows.{some}
 use Rattle.contents.proofs.Heading.{length-part}
 use Rattle.bodies.specs.Bodies.{kept, bodyOf, identical, sameRows, sameRecords, keptRows, bodyIn, bodyPut}
 use Rattle.bodies.specs.Answers.{PutBody}
+use Rattle.bodies.proofs.Single.{body-reads}
 use Rattle.bodies.proofs.Ends.{length-kept}
 
 -- rows compared in two parts
@@ -73,6 +75,13 @@ same-identical {f} {g} {a} {b} {s} {t} p q =
 pub identical-bodies : (s t : Statement) → identical s t ≡ true → bodyOf s ≡ bodyOf t
 unfolding identical
 identical-bodies s t e = same-equal (bodyOf s) (bodyOf t) e
+
+-- identical statements are equal: in key, in dates, in all
+pub identical-equal : {s t : Statement} → Writable july s → Writable july t → identical s t ≡ true → s ≡ t
+identical-equal {s} {t} v w e =
+    let p : Reads july plain (bodyOf t) (s ∷ []) = rw (← identical-bodies s t e) (body-reads v) in
+    let q = unique p (body-reads w) in
+    cc
 
 -- the body of a part is that of its statement
 rows-text : (ps : List (List ℕ)) → keptRows ps ≡ flat (map keptIn ps)

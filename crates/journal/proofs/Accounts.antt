@@ -5,30 +5,21 @@ use mathlib.Core.List.{List, [], _∷_}
 use Prim.Native.Nat.{ℕ, _-_}
 use lib.ListN.{length}
 use Rattle.zones.specs.Choice.{pick}
-use Rattle.framing.specs.Files.{All, plain}
+use Rattle.framing.specs.Files.{All}
 use Rattle.grammar.specs.declared.Key.{Key}
 use Rattle.grammar.specs.Record.{sameKey}
 use Rattle.grammar.specs.Statements.{Statement}
-use Rattle.grammar.specs.Files.{Reads, Writable}
+use Rattle.grammar.specs.Files.{Writable}
 use Rattle.grammar.specs.Parts.{sizeOf}
 use Rattle.grammar.proofs.Tests.{clash, sameKey-self}
 use Rattle.records.specs.July.{july}
-use Rattle.records.proofs.Theorems.{unique}
-use Rattle.bodies.specs.Bodies.{bodyOf, identical}
-use Rattle.bodies.proofs.Single.{body-reads}
-use Rattle.bodies.proofs.Identical.{identical-bodies}
+use Rattle.bodies.specs.Bodies.{identical}
+use Rattle.bodies.proofs.Identical.{identical-equal}
 use Rattle.journal_layout.specs.declared.Judgement.{Judgement}
 use Rattle.journal_layout.specs.declared.Judgement.the-variants.{First, After}
 use Rattle.journal_layout.specs.Chains.{heldAmong, lastAmong, judgementOf, ofAccount}
 use Rattle.journal_layout.specs.Layout.{linesOf}
 use Rattle.journal.specs.Delivery.{verdictBy, verdictOf}
-
--- identical statements are equal: in key, in dates, in all
-pub identical-equal : {s t : Statement} → Writable july s → Writable july t → identical s t ≡ true → s ≡ t
-identical-equal {s} {t} v w e =
-    let p : Reads july plain (bodyOf t) (s ∷ []) = rw (← identical-bodies s t e) (body-reads v) in
-    let q = unique p (body-reads w) in
-    cc
 
 -- those of other accounts neither hold it nor come before it
 held-account : (s : Statement) (hs : List Statement) → Writable july s → All (Writable july) hs → heldAmong s hs ≡ heldAmong s (ofAccount (s .key) hs)

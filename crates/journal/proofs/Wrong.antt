@@ -18,6 +18,7 @@ use Rattle.records.proofs.Theorems as T
 use Rattle.records.proofs.Worked.{nil-accepted}
 use Rattle.records.proofs.Small.{form, nil-crlf, two, lone, february, march, nil-holds, two-hold, two-accepted, lone-refused, nil-relined}
 use Rattle.bodies.specs.Bodies.{identical}
+use Rattle.bodies.proofs.Identical.{identical-equal}
 use Rattle.entries.specs.Entries.{tableSize, lineAt}
 use Rattle.journal_layout.specs.Chains.{heldAmong, lastAmong, judgementOf, Chained, ofAccount}
 use Rattle.journal_layout.specs.Layout.{mostLines, isLength, linesOf, journalOf, Journal, openedOf}
@@ -29,7 +30,6 @@ use Rattle.journal.specs.Answers.{Delivers}
 use Rattle.journal.specs.Arrivals.{arrivals}
 use Rattle.journal.specs.Series.{deliver, Deliver, after, heldFrom, Demand3}
 use Rattle.journal.proofs.Delivered.{file-writable, outcome-by, opened-long, opened}
-use Rattle.journal.proofs.Accounts.{identical-equal}
 use Rattle.journal.proofs.Paper.{delivers}
 
 -- a journal with room for four records, before it is opened
