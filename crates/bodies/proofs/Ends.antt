@@ -2,19 +2,21 @@
 use mathlib.Core.Path.{_≡_, ap, _∙_}
 use mathlib.Core.List.{List, [], _∷_}
 use Prim.Native.Nat.{ℕ, _-_}
-use native.Mathlib.Nat.{add-mul}
+use native.Mathlib.Nat.{zero-mul, add-mul}
 use native.Mathlib.Omega.{arith}
 use lib.ListN.{length}
-use borrow.Author.Tests.{le-ltb}
+use borrow.Author.Tests.{eq-eqb, le-ltb}
 use Rattle.framing.specs.declared.Form.{Form}
 use Rattle.framing.specs.Files.{widthOf}
 use Rattle.grammar.specs.Statements.{Statement, sizes}
 use Rattle.grammar.specs.Files.{Reads}
+use Rattle.grammar.specs.Parts.{recordsBefore}
 use Rattle.records.specs.July.{recordSize, july, canonRecord}
+use Rattle.records.specs.Looks.{lookOf}
 use Rattle.records.proofs.Lawful.{july-lawful}
 use Rattle.contents.specs.Heads.{recordAtOf}
 use Rattle.contents.proofs.Records.{record-kept}
-use Rattle.contents.proofs.Heading.{Balance, opened, closed, length-part, first-held, last-held}
+use Rattle.contents.proofs.Heading.{Balance, opened, closed, old-date-at, length-part, first-held, last-held}
 use Rattle.bodies.specs.Bodies.{kept, openingText, closingText, closingIn}
 
 -- a record is as long as it is kept
@@ -52,3 +54,12 @@ module _ {f : Form} {b : List ℕ} {s : Statement} (r : Reads july f b (s ∷ []
 
   pub closing-whole : length (closingIn f b) ≡ recordSize
   closing-whole = rw last-found (last-held r .whole)
+
+  -- a look at the 01 gives the old date and the old balance
+  pub look-date : lookOf (recordAtOf b 0) .day ≡ s .old-date
+  unfolding recordsBefore
+  look-date = rw (zero-mul w) at (old-date-at r 0 (omega arith))
+
+  pub look-balance : lookOf (recordAtOf b 0) .amount ≡ s .old-balance
+  unfolding lookOf
+  look-balance = rw (eq-eqb (length (recordAtOf b 0)) recordSize opening-whole) (opening-there .amount)

@@ -23,12 +23,12 @@ use Rattle.grammar.specs.Record.{sameKey}
 use Rattle.grammar.specs.Statements.{Statement}
 use Rattle.grammar.specs.Files.{Reads}
 use Rattle.grammar.specs.Parts.{noStatement}
-use Rattle.records.specs.July.{recordSize, july}
+use Rattle.records.specs.July.{july}
 use Rattle.records.specs.declared.Look.{Look}
 use Rattle.records.specs.Looks.{lookOf}
 use Rattle.contents.specs.Heads.{recordAtOf}
 use Rattle.bodies.specs.Bodies.{closingIn}
-use Rattle.bodies.proofs.Ends.{opening-there, opening-whole}
+use Rattle.bodies.proofs.Ends.{look-balance}
 use Rattle.journal_layout.specs.Chains.{ofAccount}
 use Rattle.journal.specs.Newest.{keySize, keyFrom}
 use Rattle.journal.specs.Holdings.{bodyIn, ofAccountIn}
@@ -253,11 +253,10 @@ module _ {j : List ℕ} {ss : List Statement} (p : Promise j ss) (x : List ℕ) 
     pub balance : lookOf (recordAtOf (bodyIn j r) 0) .amount ≡ first .old-balance
 
   old-there : (i : ℕ) → i < length ss → lookOf (recordAtOf (bodyIn j (suc i)) 0) .amount ≡ getD ss i noStatement .old-balance
-  unfolding lookOf
   old-there i l =
       let z : suc i - 1 ≡ i = omega arith in
       let r : Reads july plain (bodyIn j (suc i)) (getD ss i noStatement ∷ []) = rw z at (p .reads (suc i) (omega arith) (omega arith)) in
-      rw (eq-eqb (length (recordAtOf (bodyIn j (suc i)) 0)) recordSize (opening-whole r)) (opening-there r .amount)
+      look-balance r
 
   pub some-held : {r : ℕ} → r ≡ firstFrom (length ss) 0 j x → (r ≡ 0 → ⊥) → First r × (noAccount x ss ≡ false)
   unfolding noAccount

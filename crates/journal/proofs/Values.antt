@@ -19,6 +19,7 @@ use Rattle.records.specs.July.{july}
 use Rattle.records.specs.Looks.{lookOf}
 use Rattle.contents.specs.Heads.{recordAtOf}
 use Rattle.bodies.specs.Bodies.{identical}
+use Rattle.bodies.proofs.Ends.{look-date, look-balance}
 use Rattle.bodies.proofs.Identical.{same-identical}
 use Rattle.entries.specs.Entries.{mostEntries}
 use Rattle.journal_layout.specs.declared.Judgement.{Judgement}
@@ -26,7 +27,6 @@ use Rattle.journal_layout.specs.declared.Judgement.the-variants.{Held, First, A
 use Rattle.journal_layout.specs.Chains.{heldAmong, lastAmong, judgementOf, followsBy}
 use Rattle.journal_layout.specs.Layout.{linesOf}
 use Rattle.journal_layout.proofs.Holding.{Holding, later-value, judged-value}
-use Rattle.journal_layout.proofs.Adding.{look-date, look-balance}
 use Rattle.journal.specs.Delivery.{Verdict, hold, store, refuse, isHeld, verdictBy, verdictOf}
 use Rattle.journal.specs.Plans.{heldIn, lastIn, judgedIn, judgedAll, verdictNumber, Reading}
 

@@ -19,12 +19,11 @@ use Rattle.grammar.specs.Files.{Reads, Writable}
 use Rattle.grammar.specs.Parts.{sizeOf}
 use Rattle.grammar.proofs.Tests.{clash}
 use Rattle.records.specs.July.{recordSize, july}
-use Rattle.records.specs.Looks.{lookOf}
 use Rattle.contents.specs.Heads.{recordAtOf}
 use Rattle.contents.proofs.Heading.{length-part}
 use Rattle.bodies.specs.Bodies.{kept, bodyOf, openingText, closingText, closingIn, single, statementOf}
 use Rattle.bodies.proofs.Single.{single-reads, single-body, reads-writable}
-use Rattle.bodies.proofs.Ends.{opening-written, opening-there, opening-whole, closing-written, closing-whole}
+use Rattle.bodies.proofs.Ends.{opening-written, opening-whole, look-date, look-balance, closing-written, closing-whole}
 use Rattle.entries.specs.Entries.{mostEntries, entrySize, tableSize, lineAt, entryPut, entryBytes, linesFrom}
 use Rattle.entries.proofs.Written.{entry-kept}
 use Rattle.journal_layout.specs.Chains.{follows}
@@ -86,14 +85,6 @@ module _ {f : Form} {x : List ℕ} {t : Statement} (r : Reads july f x (t ∷ []
   entry-value k n y z l =
       sym (entry-kept k n (recordAtOf x 0) (closingIn f x) y (opening-whole r) (closing-whole r))
       ∙ rw (opening-written r, closing-written r, z) (entry-put-value (reads-writable r) k y l)
-
-  pub look-date : lookOf (recordAtOf x 0) .day ≡ t .old-date
-  unfolding lookOf
-  look-date = rw (eq-eqb (length (recordAtOf x 0)) recordSize (opening-whole r), opening-there r .day)
-
-  pub look-balance : lookOf (recordAtOf x 0) .amount ≡ t .old-balance
-  unfolding lookOf
-  look-balance = rw (eq-eqb (length (recordAtOf x 0)) recordSize (opening-whole r), opening-there r .amount)
 
 -- ---- entry e behind the statements H
 
