@@ -11,7 +11,7 @@ use Rattle.framing.specs.Files.{widthOf}
 use Rattle.grammar.specs.Statements.{Statement, sizes}
 use Rattle.grammar.specs.Files.{Reads}
 use Rattle.grammar.specs.Parts.{recordsBefore}
-use Rattle.records.specs.July.{recordSize, july, canonRecord}
+use Rattle.records.specs.July.{recordSize, canonRecord, codingOf}
 use Rattle.records.specs.Looks.{lookOf}
 use Rattle.records.proofs.Lawful.{july-lawful}
 use Rattle.contents.specs.Heads.{recordAtOf}
@@ -24,7 +24,7 @@ pub length-kept : (r : List ℕ) → length r ≡ recordSize → length (kept r)
 unfolding kept
 length-kept r l = july-lawful .alike r l .sized ∙ l
 
-module _ {f : Form} {b : List ℕ} {s : Statement} (r : Reads july f b (s ∷ [])) where
+module _ {f : Form} {b : List ℕ} {s : Statement} (r : Reads (codingOf f) f b (s ∷ [])) where
   abbrev w : ℕ
   w = widthOf recordSize f
 

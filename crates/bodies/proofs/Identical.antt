@@ -22,8 +22,8 @@ use Rattle.grammar.specs.Parts.{sizeOf}
 use Rattle.grammar.proofs.Canonical.{wide-all}
 use Rattle.grammar.proofs.Exact.{reads-rows}
 use Rattle.grammar.proofs.Trips.{one-records}
-use Rattle.records.specs.July.{recordSize, july, july2004, encodeRecord}
-use Rattle.records.proofs.Lawful.{july-lawful}
+use Rattle.records.specs.July.{recordSize, july, july2004, encodeRecord, codingOf}
+use Rattle.records.proofs.Lawful.{lawful}
 use Rattle.records.proofs.Theorems.{unique}
 use Rattle.readers.proofs.Rows.{some}
 use Rattle.contents.proofs.Heading.{length-part}
@@ -61,15 +61,15 @@ module _ (f g : Form) where
       (same-append (keptIn x) (flat (map keptIn xs)) (keptIn y) (flat (map keptIn ys)) (kept-wide f x (p .0) ∙ sym (kept-wide g y (q .0))))
 
 -- the records of a statement's part, as they are kept, are its body
-kept-of : {f : Form} {b : List ℕ} {s : Statement} → Reads july f b (s ∷ []) → flat (map keptIn (piecesOf recordSize f b)) ≡ bodyOf s
+kept-of : {f : Form} {b : List ℕ} {s : Statement} → Reads (codingOf f) f b (s ∷ []) → flat (map keptIn (piecesOf recordSize f b)) ≡ bodyOf s
 unfolding bodyOf kept
-kept-of {f} {b} {s} r = ap flat (reads-rows july july-lawful r ∙ ap (map encodeRecord) (one-records july2004 s))
+kept-of {f} {b} {s} r = ap flat (reads-rows (codingOf f) (lawful f) r ∙ ap (map encodeRecord) (one-records july2004 s))
 
-pub same-identical : {f g : Form} {a b : List ℕ} {s t : Statement} → Reads july f a (s ∷ []) → Reads july g b (t ∷ []) → sameRecords f a g b ≡ identical s t
+pub same-identical : {f g : Form} {a b : List ℕ} {s t : Statement} → Reads (codingOf f) f a (s ∷ []) → Reads (codingOf g) g b (t ∷ []) → sameRecords f a g b ≡ identical s t
 unfolding sameRecords identical
 same-identical {f} {g} {a} {b} {s} {t} p q =
     rw (p .line, q .line)
-    (rows-same f g (piecesOf recordSize f a) (piecesOf recordSize g b) (wide-all july july-lawful f a) (wide-all july july-lawful g b) ∙ ap₂ sameBytes (kept-of p) (kept-of q))
+    (rows-same f g (piecesOf recordSize f a) (piecesOf recordSize g b) (wide-all (codingOf f) (lawful f) f a) (wide-all (codingOf g) (lawful g) g b) ∙ ap₂ sameBytes (kept-of p) (kept-of q))
 
 -- identical statements have the same body
 pub identical-bodies : (s t : Statement) → identical s t ≡ true → bodyOf s ≡ bodyOf t
@@ -79,7 +79,7 @@ identical-bodies s t e = same-equal (bodyOf s) (bodyOf t) e
 -- identical statements are equal: in key, in dates, in all
 pub identical-equal : {s t : Statement} → Writable july s → Writable july t → identical s t ≡ true → s ≡ t
 identical-equal {s} {t} v w e =
-    let p : Reads july plain (bodyOf t) (s ∷ []) = rw (← identical-bodies s t e) (body-reads v) in
+    let p : Reads (codingOf plain) plain (bodyOf t) (s ∷ []) = rw (← identical-bodies s t e) (body-reads v) in
     let q = unique p (body-reads w) in
     cc
 
@@ -89,7 +89,7 @@ unfolding keptRows flat
 rows-text [] = refl
 rows-text (p ∷ ps) = ap (λ l. keptIn p ++ l) (rows-text ps)
 
-module _ {f : Form} {b : List ℕ} {s : Statement} (r : Reads july f b (s ∷ [])) where
+module _ {f : Form} {b : List ℕ} {s : Statement} (r : Reads (codingOf f) f b (s ∷ [])) where
   pub body-of-part : bodyIn f b ≡ bodyOf s
   unfolding bodyIn
   body-of-part = rows-text (piecesOf recordSize f b) ∙ kept-of r

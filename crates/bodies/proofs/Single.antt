@@ -21,8 +21,8 @@ use Rattle.grammar.proofs.Parts.{length-one}
 use Rattle.grammar.proofs.Seam.{piecesFor, wide-pieces}
 use Rattle.grammar.proofs.Exact.{gives-reads}
 use Rattle.grammar.proofs.Trips.{one-records}
-use Rattle.records.specs.July.{recordSize, mostInStatement, july, july2004, encodeRecord, noDebitZero}
-use Rattle.records.proofs.Lawful.{july-lawful}
+use Rattle.records.specs.July.{recordSize, mostInStatement, july, july2004, encodeRecord, noDebitZero, codingOf}
+use Rattle.records.proofs.Lawful.{lawful}
 use Rattle.records.proofs.Theorems.{unique, counts, reads, own-file, writable}
 use Rattle.statements.specs.declared.Checked.the-variants as C
 use Rattle.statements.specs.Answers.{checkedOf}
@@ -38,13 +38,13 @@ not-counted (accepted x) e = absurd (let z : _≡_ {A = ℕ} 0 1 = cc in omega a
 not-counted (refused n r) e = refl
 
 module _ (b : List ℕ) where
-  pub judged : {s m c : ℕ} {t : Bool} → C.Accepted s m c ≡ checkedOf (checkOf july plain b) → t ≡ noDebitZero (pieces july plain b) → (eqb s 1 && t) ≡ single b
+  pub judged : {s m c : ℕ} {t : Bool} → C.Accepted s m c ≡ checkedOf (checkOf (codingOf plain) plain b) → t ≡ noDebitZero (pieces (codingOf plain) plain b) → (eqb s 1 && t) ≡ single b
   unfolding single
-  judged e d = conj (counted (checkOf july plain b) e) d
+  judged e d = conj (counted (checkOf (codingOf plain) plain b) e) d
 
-  pub refused-alone : {n r : ℕ} → C.Refused n r ≡ checkedOf (checkOf july plain b) → false ≡ single b
+  pub refused-alone : {n r : ℕ} → C.Refused n r ≡ checkedOf (checkOf (codingOf plain) plain b) → false ≡ single b
   unfolding single
-  refused-alone e = sym (rw (not-counted (checkOf july plain b) e))
+  refused-alone e = sym (rw (not-counted (checkOf (codingOf plain) plain b) e))
 
 -- what passes the test is a file of one statement, and this is it
 one-of : (ss : List Statement) → length ss ≡ 1 → ss ≡ getD ss 0 noStatement ∷ []
@@ -52,47 +52,47 @@ one-of [] e = absurd (omega arith)
 one-of (s ∷ []) e = refl
 one-of (s ∷ t ∷ ss) e = absurd (omega arith)
 
-pub single-reads : (b : List ℕ) → single b ≡ true → Reads july plain b (statementOf b ∷ [])
+pub single-reads : (b : List ℕ) → single b ≡ true → Reads (codingOf plain) plain b (statementOf b ∷ [])
 unfolding single statementOf
-single-reads b h = by (checkOf july plain b) refl (and-left (countsOne (checkOf july plain b)) _ h)
+single-reads b h = by (checkOf (codingOf plain) plain b) refl (and-left (countsOne (checkOf (codingOf plain) plain b)) _ h)
   where
-    by : (a : Answer) → checkOf july plain b ≡ a → countsOne a ≡ true → Reads july plain b (getD (statementsOf july plain b) 0 noStatement ∷ [])
+    by : (a : Answer) → checkOf (codingOf plain) plain b ≡ a → countsOne a ≡ true → Reads (codingOf plain) plain b (getD (statementsOf (codingOf plain) plain b) 0 noStatement ∷ [])
     by (accepted c) e g =
         let r = reads plain b e in
-        let n : length (statementsOf july plain b) ≡ 1 =
+        let n : length (statementsOf (codingOf plain) plain b) ≡ 1 =
         let q = sym e ∙ counts r in
-        let z : c .statements ≡ length (statementsOf july plain b) = cc in
+        let z : c .statements ≡ length (statementsOf (codingOf plain) plain b) = cc in
         sym z ∙ eqb-true (c .statements) 1 g in
-        rw (← one-of (statementsOf july plain b) n) r
+        rw (← one-of (statementsOf (codingOf plain) plain b) n) r
     by (refused n k) e g = absurd (let z : _≡_ {A = ℕ} 0 1 = cc in omega arith)
 
-pub reads-statement : {b : List ℕ} {s : Statement} → Reads july plain b (s ∷ []) → statementOf b ≡ s
+pub reads-statement : {b : List ℕ} {s : Statement} → Reads (codingOf plain) plain b (s ∷ []) → statementOf b ≡ s
 unfolding statementOf
 reads-statement {b} r = let q = unique (reads plain b (counts r)) r in rw q
 
 -- a statement that some file reads as can be written
-pub reads-writable : {f : Form} {b : List ℕ} {s : Statement} → Reads july f b (s ∷ []) → Writable july s
+pub reads-writable : {f : Form} {b : List ℕ} {s : Statement} → Reads (codingOf f) f b (s ∷ []) → Writable july s
 reads-writable {f} {b} {s} r = writable s .0 (f, (b, r))
 
 -- the body of a statement is the file without line ends that it gives
-unended : (rs : List Rec) → map encodeRecord rs ≡ piecesFor july plain rs
+unended : (rs : List Rec) → map encodeRecord rs ≡ piecesFor (codingOf plain) plain rs
 unfolding endOf
 unended [] = refl
 unended (r ∷ rs) = ap₂ _∷_ (sym (append-nil (encodeRecord r))) (unended rs)
 
-pub body-layout : (s : Statement) → bodyOf s ≡ layoutOf july plain (s ∷ [])
+pub body-layout : (s : Statement) → bodyOf s ≡ layoutOf (codingOf plain) plain (s ∷ [])
 unfolding bodyOf layoutOf fileOf
-body-layout s = ap flat (unended (recordsOf july2004 s) ∙ ap (piecesFor july plain) (sym (one-records july2004 s)))
+body-layout s = ap flat (unended (recordsOf july2004 s) ∙ ap (piecesFor (codingOf plain) plain) (sym (one-records july2004 s)))
 
 -- a body that stands alone is that of its statement
 pub single-body : (b : List ℕ) → single b ≡ true → b ≡ bodyOf (statementOf b)
 unfolding single
 single-body b h =
-    sym (body-layout (statementOf b) ∙ (single-reads b h .layout ∙ own-file plain b .1 (and-right (countsOne (checkOf july plain b)) _ h)))
+    sym (body-layout (statementOf b) ∙ (single-reads b h .layout ∙ own-file plain b .1 (and-right (countsOne (checkOf (codingOf plain) plain b)) _ h)))
 
 module _ {s : Statement} (w : Writable july s) where
   -- the body is given by exactly this statement
-  body-given : Gives july plain (bodyOf s) (s ∷ [])
+  body-given : Gives (codingOf plain) plain (bodyOf s) (s ∷ [])
   body-given =
       record {
         line = refl;
@@ -103,18 +103,18 @@ module _ {s : Statement} (w : Writable july s) where
       }
 
   -- so it is a file of it
-  pub body-reads : Reads july plain (bodyOf s) (s ∷ [])
-  body-reads = gives-reads july july-lawful body-given
+  pub body-reads : Reads (codingOf plain) plain (bodyOf s) (s ∷ [])
+  body-reads = gives-reads (codingOf plain) (lawful plain) body-given
 
   -- without a debit zero
-  pub body-own : noDebitZero (pieces july plain (bodyOf s)) ≡ true
+  pub body-own : noDebitZero (pieces (codingOf plain) plain (bodyOf s)) ≡ true
   body-own = own-file plain (bodyOf s) .0 (sym (body-reads .layout) ∙ sym (body-layout s))
 
   -- and stands alone
   pub body-single : single (bodyOf s) ≡ true
   unfolding single
   body-single =
-      let n : countsOne (checkOf july plain (bodyOf s)) ≡ true = rw (counts body-reads) in
+      let n : countsOne (checkOf (codingOf plain) plain (bodyOf s)) ≡ true = rw (counts body-reads) in
       both n body-own
 
   pub length-body : length (bodyOf s) ≡ sizeOf s * recordSize
@@ -122,7 +122,7 @@ module _ {s : Statement} (w : Writable july s) where
   length-body =
       let rs = recordsOf july2004 s in
       ap (λ l. length (flat l)) (unended rs)
-      ∙ length-flat recordSize (piecesFor july plain rs) (wide-pieces july plain july-lawful refl rs (w .ok))
+      ∙ length-flat recordSize (piecesFor (codingOf plain) plain rs) (wide-pieces (codingOf plain) plain (lawful plain) refl rs (w .ok))
       ∙ ap (λ (n : ℕ). n * recordSize) (length-map (map encodeRecord rs) (pieceOf plain) ∙ length-map rs encodeRecord ∙ length-one july2004 s)
 
   -- a statement has two records at least

@@ -14,7 +14,7 @@ use Rattle.grammar.specs.Record.{opening, closing}
 use Rattle.grammar.specs.Statements.{Statement, recordsOf}
 use Rattle.grammar.specs.Files.{statementsOf, checkOf}
 use Rattle.grammar.specs.Parts.{noStatement}
-use Rattle.records.specs.July.{recordSize, july, july2004, encodeRecord, canonRecord, noDebitZero}
+use Rattle.records.specs.July.{recordSize, july2004, encodeRecord, canonRecord, noDebitZero, codingOf}
 use Rattle.contents.specs.Heads.{recordAtOf}
 
 -- the form in which the journal keeps a record: as the writer writes it
@@ -43,11 +43,11 @@ countsOne (refused n r) = false
 
 -- a body stands alone: as a file it is one statement, and it has no debit zero
 unfoldable pub single : List ℕ → Bool
-single b = countsOne (checkOf july plain b) && noDebitZero (piecesOf recordSize plain b)
+single b = countsOne (checkOf (codingOf plain) plain b) && noDebitZero (piecesOf recordSize plain b)
 
 -- the statement that a body reads as
 unfoldable pub statementOf : List ℕ → Statement
-statementOf b = getD (statementsOf july plain b) 0 noStatement
+statementOf b = getD (statementsOf (codingOf plain) plain b) 0 noStatement
 
 -- two records are kept alike
 abbrev pub sameRecord : List ℕ → List ℕ → Bool

@@ -6,7 +6,7 @@ use Rattle.framing.specs.declared.Form.{Form}
 use Rattle.framing.specs.Files.{lineEnd}
 use Rattle.grammar.specs.Files.{checkOf, Ruled}
 use Rattle.grammar.specs.Demand.{Demand2}
-use Rattle.records.specs.July.{july}
+use Rattle.records.specs.July.{july, codingOf}
 use Rattle.statements.specs.declared.Checked.{Checked}
 use Rattle.statements.specs.Answers.{checkedOf, answerOf, paperCheck, paperOf, checkedBy, Check}
 use Rattle.statements.proofs.Paper.{Numbered, checks, paper-apart}
@@ -31,7 +31,7 @@ pub number-ruled : {e : ℕ} {b : List ℕ} {n : ℕ} → CheckNumber e b n → 
 number-ruled g = check-ruled (checks (check-unpacked g))
 
 pub number-demand2 : (check : ℕ → List ℕ → ℕ) → ((e : ℕ) (b : List ℕ) → CheckNumber e b (check e b))
-    → Demand2 july (λ f b. answerOf (checkedBy (paperCheckIn (check (lineEnd f) b))))
+    → Demand2 codingOf (λ f b. answerOf (checkedBy (paperCheckIn (check (lineEnd f) b))))
 number-demand2 check c = check-demand2 (λ f b. checkedBy (paperCheckIn (check (lineEnd f) b))) (λ f b. checks (check-unpacked (c (lineEnd f) b)))
 
 -- opening and delivering: each call's number, and the journal that it leaves

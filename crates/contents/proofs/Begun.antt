@@ -15,7 +15,7 @@ use Rattle.framing.specs.declared.Form.{Form}
 use Rattle.grammar.specs.Statements.{Statement, recordsOf, allRecords}
 use Rattle.grammar.specs.Files.{Reads, statementsOf}
 use Rattle.grammar.specs.Parts.{noStatement}
-use Rattle.records.specs.July.{july}
+use Rattle.records.specs.July.{codingOf}
 use Rattle.records.proofs.Theorems.{counts, reads, unique, part-reads}
 use Rattle.records.proofs.Zones.{opening-day}
 use Rattle.contents.specs.Earliest.{earlierOf, earliestFrom, earliestOf, beginningOf}
@@ -98,7 +98,7 @@ of-some (s ∷ ss) o h = from-some (earlierOf 0 (s .old-date)) ss (others s ss o
 
 -- ---- the statements of an accepted file
 
-module _ {f : Form} {b : List ℕ} {ss : List Statement} (r : Reads july f b ss) where
+module _ {f : Form} {b : List ℕ} {ss : List Statement} (r : Reads (codingOf f) f b ss) where
   -- their old dates are days that exist
   pub old-day : (j : ℕ) → j < length ss → isDay (getD ss j noStatement .old-date) ≡ true
   unfolding allRecords recordsOf
@@ -139,4 +139,4 @@ module _ {f : Form} {b : List ℕ} {ss : List Statement} (r : Reads july f b ss)
   -- it is what is answered
   pub earliest-told : beginningOf f b ≡ On (earliestOf ss)
   unfolding beginningOf
-  earliest-told = let q : statementsOf july f b ≡ ss = unique (reads f b (counts r)) r in rw (counts r, q)
+  earliest-told = let q : statementsOf (codingOf f) f b ≡ ss = unique (reads f b (counts r)) r in rw (counts r, q)

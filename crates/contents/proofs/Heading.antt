@@ -21,7 +21,7 @@ use Rattle.grammar.specs.Files.{Reads, checkOf}
 use Rattle.grammar.specs.Parts.{sizeOf, recordsBefore, noStatement}
 use Rattle.grammar.proofs.Parts.{drop-before}
 use Rattle.grammar.proofs.Rows.{all-cons}
-use Rattle.records.specs.July.{recordSize, july, july2004, keyIn, dateIn, amountIn, decodeRecord}
+use Rattle.records.specs.July.{recordSize, keyIn, dateIn, amountIn, decodeRecord, codingOf, editionOf}
 use Rattle.records.specs.declared.Look.{Look}
 use Rattle.records.specs.Looks.{lookOf}
 use Rattle.records.proofs.Theorems.{counts}
@@ -88,22 +88,22 @@ head-held s o c l m x y =
     rw (eq-eqb (length o) recordSize l, eq-eqb (length c) recordSize m, x .key, x .day, x .amount, y .day, y .amount)
 
 -- at the place of statement j, from 0, stands its 01
-pub opening-at : {f : Form} {b : List ℕ} {ss : List Statement} → Reads july f b ss → (j : ℕ) → j < length ss
+pub opening-at : {f : Form} {b : List ℕ} {ss : List Statement} → Reads (codingOf f) f b ss → (j : ℕ) → j < length ss
     → let s = getD ss j noStatement in HoldsAt b (recordsBefore j ss * widthOf recordSize f) (opening (s .key) (s .old-date) (s .old-balance))
 opening-at {f} {b} {ss} r j h =
     let s = getD ss j noStatement in
-    let q : drop (recordsBefore j ss) (allRecords july2004 ss) ≡ allRecords july2004 (s ∷ drop (suc j) ss) =
-    drop-before july2004 j ss ∙ rw (drop-cons ss j noStatement h) in
-    record-there r (recordsBefore j ss) (q ∙ all-cons july2004 s (drop (suc j) ss))
+    let q : drop (recordsBefore j ss) (allRecords (editionOf f) ss) ≡ allRecords (editionOf f) (s ∷ drop (suc j) ss) =
+    drop-before (editionOf f) j ss ∙ rw (drop-cons ss j noStatement h) in
+    record-there r (recordsBefore j ss) (q ∙ all-cons (editionOf f) s (drop (suc j) ss))
 
 -- and its old date
-pub old-date-at : {f : Form} {b : List ℕ} {ss : List Statement} → Reads july f b ss → (j : ℕ) → j < length ss
+pub old-date-at : {f : Form} {b : List ℕ} {ss : List Statement} → Reads (codingOf f) f b ss → (j : ℕ) → j < length ss
     → lookOf (recordAtOf b (recordsBefore j ss * widthOf recordSize f)) .day ≡ getD ss j noStatement .old-date
 unfolding lookOf
 old-date-at r j h = let o = opening-at r j h in rw (eq-eqb _ recordSize (o .whole)) (opened _ (o .values) .day)
 
 -- the part of a statement
-module _ {f : Form} {b : List ℕ} {s : Statement} (r : Reads july f b (s ∷ [])) where
+module _ {f : Form} {b : List ℕ} {s : Statement} (r : Reads (codingOf f) f b (s ∷ [])) where
   abbrev w : ℕ
   w = widthOf recordSize f
 
@@ -114,13 +114,13 @@ module _ {f : Form} {b : List ℕ} {s : Statement} (r : Reads july f b (s ∷ []
 
   -- its first record is its 01
   pub first-held : HoldsAt b 0 (opening (s .key) (s .old-date) (s .old-balance))
-  first-held = rw (zero-mul w) at (record-there r 0 (all-cons july2004 s []))
+  first-held = rw (zero-mul w) at (record-there r 0 (all-cons (editionOf f) s []))
 
   -- its last record is its 07
   abbrev records-before-last : ℕ
   records-before-last = before r 0 (omega arith) (length (s .movements))
 
-  last-record : drop records-before-last (allRecords july2004 (s ∷ []))
+  last-record : drop records-before-last (allRecords (editionOf f) (s ∷ []))
       ≡ closing (s .key) (s .new-date) (s .new-balance) ∷ rest r 0 (omega arith) (length (s .movements)) .0
   last-record = rest r 0 (omega arith) (length (s .movements)) .1 ∙ rw (drop-length (s .movements))
 
@@ -140,12 +140,12 @@ module _ {f : Form} {b : List ℕ} {s : Statement} (r : Reads july f b (s ∷ []
   last-inside = rw length-part (omega (arith, add-mul (sizes (s .movements)) 2 (recordSize + lineEnd f)))
 
   -- it is accepted with its number of movements
-  pub count-there : movementsIn (checkOf july f b) ≡ length (s .movements)
+  pub count-there : movementsIn (checkOf (codingOf f) f b) ≡ length (s .movements)
   unfolding movementsOf
   count-there = rw (counts r) (add-zero (length (s .movements)))
 
   -- the whole answer
-  pub headed : {h : Head} {m : ℕ} → h ≡ headAt (recordAtOf b 0) (recordAtOf b (length b - (recordSize + lineEnd f))) → m ≡ movementsIn (checkOf july f b)
+  pub headed : {h : Head} {m : ℕ} → h ≡ headAt (recordAtOf b 0) (recordAtOf b (length b - (recordSize + lineEnd f))) → m ≡ movementsIn (checkOf (codingOf f) f b)
       → _≡_ {A = HeadAnswer} (record { number = 0; «record» = 0; head = h; movements = m }) (headAmong s)
   unfolding widthOf
   headed p q =

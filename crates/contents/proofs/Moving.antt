@@ -18,7 +18,7 @@ use Rattle.grammar.specs.Statements.{Movement, Statement, sizes, allRecords}
 use Rattle.grammar.specs.Files.{Reads, statementsOf, checkOf}
 use Rattle.grammar.specs.Parts.{recordsBefore, noStatement}
 use Rattle.grammar.proofs.Rows.{addsThen, movesThen}
-use Rattle.records.specs.July.{recordSize, repeats, july, july2004, postingIn, decodeRecord}
+use Rattle.records.specs.July.{recordSize, repeats, postingIn, decodeRecord, codingOf, editionOf}
 use Rattle.fields.specs.Rows.{rowOf, noRow, rowAtOf}
 use Rattle.fields.specs.declared.Movement as Fields
 use Rattle.statements.proofs.Modes.{View, one, four, five, seven, view}
@@ -90,7 +90,7 @@ in-range i n e = by (eqb i 0) (ltb n i) refl refl e
     by false true p q g = absurd (let z : true ≡ false = g in let y : _≡_ {A = ℕ} 0 1 = cc in omega arith)
     by false false p q g = (eqb-false i 0 p, ltb-false n i q)
 
-module _ {f : Form} {b : List ℕ} {s : Statement} (r : Reads july f b (s ∷ [])) where
+module _ {f : Form} {b : List ℕ} {s : Statement} (r : Reads (codingOf f) f b (s ∷ [])) where
   abbrev ms : List Movement
   ms = s .movements
 
@@ -173,10 +173,10 @@ module _ {f : Form} {b : List ℕ} {s : Statement} (r : Reads july f b (s ∷ []
       step-is = rw (place-in (some-there h)) (movement-there r 0 first-only (i - 1) (drop-cons ms (i - 1) noMovement inside))
 
       -- the records there
-      records-there : (l : List Rec) × (drop (upTo (i - 1)) (allRecords july2004 (s ∷ []))
+      records-there : (l : List Rec) × (drop (upTo (i - 1)) (allRecords (editionOf f) (s ∷ []))
           ≡ movement (s .key) (m .posting) ∷ addsThen (repeats (s .key) (m .posting)) (m .complements) l)
       records-there = (
-        movesThen july2004 (s .key) (drop (suc (i - 1)) ms) (closing (s .key) (s .new-date) (s .new-balance) ∷ rest r 0 first-only (i - 1) .0),
+        movesThen (editionOf f) (s .key) (drop (suc (i - 1)) ms) (closing (s .key) (s .new-date) (s .new-balance) ∷ rest r 0 first-only (i - 1) .0),
         rest r 0 first-only (i - 1) .1 ∙ rw (drop-cons ms (i - 1) noMovement inside),
       )
 
@@ -213,13 +213,13 @@ module _ {f : Form} {b : List ℕ} {s : Statement} (r : Reads july f b (s ∷ []
               let u = within .0 in
               omega (arith, within .1)
 
-          text-records : (l : List Rec) × (drop (upTo (i - 1) + j) (allRecords july2004 (s ∷ []))
+          text-records : (l : List Rec) × (drop (upTo (i - 1) + j) (allRecords (editionOf f) (s ∷ []))
               ≡ complement (repeats (s .key) (m .posting)) (getD ts (j - 1) []) ∷ l)
           text-records =
               let u = within .0 in
               let z : j ≡ suc (j - 1) = omega arith in
               let l = add-at (repeats (s .key) (m .posting)) ts (records-there .0) (j - 1) last-one in
-              (l .0, sym (drop-drop j (upTo (i - 1)) (allRecords july2004 (s ∷ []))) ∙ rw (records-there .1) (ap (λ k. drop k (movement (s .key) (m .posting) ∷ addsThen (repeats (s .key) (m .posting)) ts (records-there .0))) z ∙ l .1))
+              (l .0, sym (drop-drop j (upTo (i - 1)) (allRecords (editionOf f) (s ∷ []))) ∙ rw (records-there .1) (ap (λ k. drop k (movement (s .key) (m .posting) ∷ addsThen (repeats (s .key) (m .posting)) ts (records-there .0))) z ∙ l .1))
 
           pub text-here : HoldsAt b (at + j * (recordSize + lineEnd f)) (complement (repeats (s .key) (m .posting)) (getD ts (j - 1) []))
           unfolding widthOf
@@ -249,7 +249,7 @@ module _ (f : Form) (b : List ℕ) (i : ℕ) where
   unfolding movementPlace
   place-zero z = sym (rw (eq-eqb i 0 z))
 
-  module _ {n : ℕ} (o : i ≡ 0 → ⊥) (e : n ≡ movementsIn (checkOf july f b)) where
+  module _ {n : ℕ} (o : i ≡ 0 → ⊥) (e : n ≡ movementsIn (checkOf (codingOf f) f b)) where
     pub place-over : n < i → 0 ≡ movementPlace f b i
     unfolding movementPlace
     place-over h = sym (rw (← e, ne-eqb i 0 o, lt-ltb n i h))
@@ -267,21 +267,21 @@ module _ (f : Form) (b : List ℕ) (k : ℕ) where
     abbrev cut : List ℕ
     cut = take (x + n - x) (drop x b)
 
-    pub cut-reads : Reads july f cut (getD (statementsOf july f b) (k - 1) noStatement ∷ [])
+    pub cut-reads : Reads (codingOf f) f cut (getD (statementsOf (codingOf f) f b) (k - 1) noStatement ∷ [])
     cut-reads = rw (part-cut f b k e) (part-alone f b k e)
 
     pub single-part : Single f cut
-    single-part = record { one = getD (statementsOf july f b) (k - 1) noStatement; reads = cut-reads }
+    single-part = record { one = getD (statementsOf (codingOf f) f b) (k - 1) noStatement; reads = cut-reads }
 
-    pub headed-part : {r : HeadAnswer} → ((s : Statement) → Reads july f cut (s ∷ []) → r ≡ headAmong s) → r ≡ headIn f b k
+    pub headed-part : {r : HeadAnswer} → ((s : Statement) → Reads (codingOf f) f cut (s ∷ []) → r ≡ headAmong s) → r ≡ headIn f b k
     unfolding headIn
     headed-part g = g _ cut-reads ∙ rw (← e)
 
-    pub moved : (i : ℕ) {r : MovementAnswer} → ((s : Statement) → Reads july f cut (s ∷ []) → r ≡ movementAmong (s .movements) i) → r ≡ movementIn f b k i
+    pub moved : (i : ℕ) {r : MovementAnswer} → ((s : Statement) → Reads (codingOf f) f cut (s ∷ []) → r ≡ movementAmong (s .movements) i) → r ≡ movementIn f b k i
     unfolding movementIn
     moved i g = g _ cut-reads ∙ rw (← e)
 
-    pub complemented : (i j : ℕ) {r : ComplementAnswer} → ((s : Statement) → Reads july f cut (s ∷ []) → r ≡ complementAmong (s .movements) i j) → r ≡ complementIn f b k i j
+    pub complemented : (i j : ℕ) {r : ComplementAnswer} → ((s : Statement) → Reads (codingOf f) f cut (s ∷ []) → r ≡ complementAmong (s .movements) i j) → r ≡ complementIn f b k i j
     unfolding complementIn
     complemented i j g = g _ cut-reads ∙ rw (← e)
 

@@ -10,7 +10,7 @@ use Rattle.framing.specs.declared.Form.{Form}
 use Rattle.grammar.specs.Answer.{refused}
 use Rattle.grammar.specs.Statements.{Statement}
 use Rattle.grammar.specs.Files.{Reads, checkOf}
-use Rattle.records.specs.July.{july}
+use Rattle.records.specs.July.{codingOf}
 use Rattle.contents.specs.declared.Beginning.{Beginning}
 use Rattle.contents.specs.declared.Beginning.the-variants.{On, Refused}
 use Rattle.contents.specs.Earliest.{earliestOf, beginningOf}
@@ -18,11 +18,11 @@ use Rattle.contents.specs.Answers.{PaperBeginning, paperBeginning, Earli
 use Rattle.contents.proofs.Begun.{earliest-told}
 
 module _ {f : Form} {b : List ℕ} {r : Beginning} (g : EarliestIn f b r) where
-  pub begins-refused : {n i : ℕ} → checkOf july f b ≡ refused n i → paperBeginning r ≡ record { number = n; at = i; day = 0 }
+  pub begins-refused : {n i : ℕ} → checkOf (codingOf f) f b ≡ refused n i → paperBeginning r ≡ record { number = n; at = i; day = 0 }
   unfolding beginningOf
   begins-refused p = ap paperBeginning (g .answer) ∙ rw p
 
-  pub begins-on : {ss : List Statement} → Reads july f b ss → paperBeginning r ≡ record { number = 0; at = 0; day = earliestOf ss }
+  pub begins-on : {ss : List Statement} → Reads (codingOf f) f b ss → paperBeginning r ≡ record { number = 0; at = 0; day = earliestOf ss }
   begins-on t = ap paperBeginning (g .answer ∙ earliest-told t)
 
 -- a refusal has a number

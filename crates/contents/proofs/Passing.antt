@@ -11,7 +11,7 @@ use Rattle.framing.specs.Files.{widthOf}
 use Rattle.grammar.specs.Statements.{Statement}
 use Rattle.grammar.specs.Files.{Reads, statementsOf, checkOf}
 use Rattle.grammar.specs.Parts.{recordsBefore, noStatement}
-use Rattle.records.specs.July.{recordSize, july}
+use Rattle.records.specs.July.{recordSize, codingOf}
 use Rattle.records.specs.declared.Look.{Look}
 use Rattle.records.specs.Looks.{lookOf}
 use Rattle.records.proofs.Theorems.{reads}
@@ -35,7 +35,7 @@ pub record Reached (f : Form) (ss : List Statement) (day at : ℕ) : Type 0 wher
 
 -- of any file: where it is accepted
 abbrev pub Passing : Form → List ℕ → (day at : ℕ) → Type 0
-Passing f b day at = (ss : List Statement) → Reads july f b ss → Reached f ss day at
+Passing f b day at = (ss : List Statement) → Reads (codingOf f) f b ss → Reached f ss day at
 
 module _ (f : Form) (b : List ℕ) where
   pub begins : Passing f b 0 0
@@ -58,7 +58,7 @@ module _ (f : Form) (b : List ℕ) where
         rest = rw (k, ← z) (rw (drop-cons ss i noStatement h) at (g .rest));
       }
 
-  pub ends : {day at : ℕ} → Passing f b day at → length b ≤ at → (ss : List Statement) → Reads july f b ss → day ≡ earliestOf ss
+  pub ends : {day at : ℕ} → Passing f b day at → length b ≤ at → (ss : List Statement) → Reads (codingOf f) f b ss → day ≡ earliestOf ss
   unfolding earliestFrom
   ends {day} p l ss r =
       let g = p ss r in
@@ -66,13 +66,13 @@ module _ (f : Form) (b : List ℕ) where
       sym (ap (earliestFrom day) q) ∙ g .rest
 
 -- the whole answer
-pub begun : (f : Form) (b : List ℕ) {s m c d : ℕ} → C.Accepted s m c ≡ checkedOf (checkOf july f b) → ((ss : List Statement) → Reads july f b ss → d ≡ earliestOf ss)
+pub begun : (f : Form) (b : List ℕ) {s m c d : ℕ} → C.Accepted s m c ≡ checkedOf (checkOf (codingOf f) f b) → ((ss : List Statement) → Reads (codingOf f) f b ss → d ≡ earliestOf ss)
     → On d ≡ beginningOf f b
 unfolding beginningOf
 begun f b e g =
-    let y = accepted-of (checkOf july f b) e in
-    ap On (g (statementsOf july f b) (reads f b y)) ∙ sym (rw y)
+    let y = accepted-of (checkOf (codingOf f) f b) e in
+    ap On (g (statementsOf (codingOf f) f b) (reads f b y)) ∙ sym (rw y)
 
-pub not-begun : (f : Form) (b : List ℕ) {n r : ℕ} → C.Refused n r ≡ checkedOf (checkOf july f b) → Refused n r ≡ beginningOf f b
+pub not-begun : (f : Form) (b : List ℕ) {n r : ℕ} → C.Refused n r ≡ checkedOf (checkOf (codingOf f) f b) → Refused n r ≡ beginningOf f b
 unfolding beginningOf
-not-begun f b e = sym (rw (refused-of (checkOf july f b) e))
+not-begun f b e = sym (rw (refused-of (checkOf (codingOf f) f b) e))

@@ -19,8 +19,8 @@ use Rattle.grammar.specs.Statements.{Statement, allRecords}
 use Rattle.grammar.specs.Files.{recOf, pieces, Reads, Fine}
 use Rattle.grammar.proofs.Parts.{all-drop}
 use Rattle.grammar.proofs.Canonical.{wide-all}
-use Rattle.records.specs.July.{recordSize, july, july2004, decodeRecord, canonRecord, encodeRecord}
-use Rattle.records.proofs.Lawful.{july-lawful}
+use Rattle.records.specs.July.{recordSize, july, decodeRecord, canonRecord, encodeRecord, codingOf, editionOf}
+use Rattle.records.proofs.Lawful.{july-lawful, lawful}
 use Rattle.readers.proofs.Rows.{from-record, records-from, fine-from}
 use Rattle.contents.specs.Heads.{recordAtOf}
 
@@ -52,13 +52,13 @@ whole-inside b at e = by (ltb (length b) (at + recordSize)) refl e
     by true p g = absurd (omega arith)
     by false p g = ltb-false (length b) (at + recordSize) p
 
-module _ {f : Form} {b : List ℕ} {ss : List Statement} (r : Reads july f b ss) where
+module _ {f : Form} {b : List ℕ} {ss : List Statement} (r : Reads (codingOf f) f b ss) where
   -- record n, from 0: its values
-  pub record-there : (n : ℕ) {x : Rec} {l : List Rec} → drop n (allRecords july2004 ss) ≡ x ∷ l → HoldsAt b (n * widthOf recordSize f) x
+  pub record-there : (n : ℕ) {x : Rec} {l : List Rec} → drop n (allRecords (editionOf f) ss) ≡ x ∷ l → HoldsAt b (n * widthOf recordSize f) x
   unfolding recordAtOf flat widthOf
-  record-there n {x} {l} e = go (drop n (pieces july f b)) (records-from r n ∙ e) (all-drop _ n (pieces july f b) (wide-all july july-lawful f b)) (fine-from r n) (from-record r n)
+  record-there n {x} {l} e = go (drop n (pieces (codingOf f) f b)) (records-from r n ∙ e) (all-drop _ n (pieces (codingOf f) f b) (wide-all (codingOf f) (lawful f) f b)) (fine-from r n) (from-record r n)
     where
-      go : (ps : List (List ℕ)) → map (recOf july) ps ≡ x ∷ l → Wide (widthOf recordSize f) ps → All (λ p. Fine july (take recordSize p)) ps → drop (n * widthOf recordSize f) b ≡ flat ps
+      go : (ps : List (List ℕ)) → map (recOf (codingOf f)) ps ≡ x ∷ l → Wide (widthOf recordSize f) ps → All (λ p. Fine (codingOf f) (take recordSize p)) ps → drop (n * widthOf recordSize f) b ≡ flat ps
           → HoldsAt b (n * widthOf recordSize f) x
       go [] d w o q = absurd (let z : _≡_ {A = ℕ} 0 1 = cc in omega arith)
       go (p ∷ ps) d w o q =
@@ -67,7 +67,7 @@ module _ {f : Form} {b : List ℕ} {ss : List Statement} (r : Reads july f b ss)
           let h : recordSize ≤ length p = omega (arith, w .0) in
           let u : recordAtOf b at ≡ take recordSize p =
           rw (le-ltb (length b) (at + recordSize) (omega (arith, length-drop at b))) (ap (take recordSize) q ∙ take-append-le recordSize p (flat ps) h) in
-          let v : recOf july p ≡ x = cc in
+          let v : recOf (codingOf f) p ≡ x = cc in
           record { whole = ap length u ∙ length-take-le recordSize p h; values = ap decodeRecord u ∙ v; fine = rw u (o .0) }
 
 -- the record at a place as the writer writes it

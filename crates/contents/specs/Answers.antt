@@ -4,7 +4,7 @@ use mathlib.Core.List.{List}
 use Prim.Native.Nat.{ℕ}
 use Rattle.framing.specs.declared.Form.{Form}
 use Rattle.grammar.specs.Files.{checkOf}
-use Rattle.records.specs.July.{july}
+use Rattle.records.specs.July.{codingOf}
 use Rattle.contents.specs.Heads.{recordAtOf, headIn, movementsIn}
 use Rattle.contents.specs.Movements.{movementIn, complementIn}
 use Rattle.contents.specs.Earliest.{beginningOf}
@@ -30,7 +30,7 @@ pub record RecordAt (b : List ℕ) (at : ℕ) (r : List ℕ) : Type 0 where
 
 -- movements_in
 pub record MovementsIn (f : Form) (b : List ℕ) (r : ℕ) : Type 0 where
-  pub answer : r ≡ movementsIn (checkOf july f b)
+  pub answer : r ≡ movementsIn (checkOf (codingOf f) f b)
 
 -- head_of
 pub record HeadOf (f : Form) (b : List ℕ) (k : ℕ) (r : HeadAnswer) : Type 0 where

@@ -8,7 +8,7 @@ use Rattle.framing.specs.declared.Form.{Form}
 use Rattle.grammar.specs.Answer.{Answer, accepted, refused}
 use Rattle.grammar.specs.Statements.{Statement}
 use Rattle.grammar.specs.Files.{statementsOf, checkOf}
-use Rattle.records.specs.July.{july}
+use Rattle.records.specs.July.{codingOf}
 use Rattle.contents.specs.declared.Beginning.{Beginning}
 use Rattle.contents.specs.declared.Beginning.the-variants.{On, Refused}
 
@@ -31,4 +31,4 @@ beginningBy (accepted c) ss = On (earliestOf ss)
 beginningBy (refused n r) ss = Refused n r
 
 unfoldable pub beginningOf : Form → List ℕ → Beginning
-beginningOf f b = beginningBy (checkOf july f b) (statementsOf july f b)
+beginningOf f b = beginningBy (checkOf (codingOf f) f b) (statementsOf (codingOf f) f b)

@@ -10,7 +10,7 @@ use Rattle.grammar.specs.Answer.{Answer, accepted, refused}
 use Rattle.grammar.specs.Statements.{Statement}
 use Rattle.grammar.specs.Files.{statementsOf}
 use Rattle.grammar.specs.Parts.{noStatement}
-use Rattle.records.specs.July.{recordSize, july}
+use Rattle.records.specs.July.{recordSize, codingOf}
 use Rattle.records.specs.Looks.{lookOf}
 use Rattle.fields.specs.Rows.{noKey, keyAtOf}
 use Rattle.readers.specs.Places.{placeOf}
@@ -47,7 +47,7 @@ headBy (At first len) s = headAmong s
 headBy (Refused n r) s = record { number = n; «record» = r; head = noHead; movements = 0 }
 
 unfoldable pub headIn : Form → List ℕ → ℕ → HeadAnswer
-headIn f b k = headBy (placeOf f b k) (getD (statementsOf july f b) (k - 1) noStatement)
+headIn f b k = headBy (placeOf f b k) (getD (statementsOf (codingOf f) f b) (k - 1) noStatement)
 
 -- the head that two records hold
 unfoldable pub headAt : (opening closing : List ℕ) → Head

@@ -11,7 +11,7 @@ use Rattle.framing.specs.Files.{lineEnd}
 use Rattle.grammar.specs.Statements.{Movement, Statement}
 use Rattle.grammar.specs.Files.{Reads, statementsOf, checkOf}
 use Rattle.grammar.specs.Parts.{noStatement}
-use Rattle.records.specs.July.{recordSize, july}
+use Rattle.records.specs.July.{recordSize, codingOf}
 use Rattle.fields.specs.Rows.{rowOf, noRow}
 use Rattle.readers.specs.Places.{placeOf}
 use Rattle.readers.specs.Steps.{stepOf}
@@ -73,19 +73,19 @@ movementBy (At first len) s i = movementAmong (s .movements) i
 movementBy (Refused n r) s i = refusedMovement n r
 
 unfoldable pub movementIn : Form → List ℕ → (k i : ℕ) → MovementAnswer
-movementIn f b k i = movementBy (placeOf f b k) (getD (statementsOf july f b) (k - 1) noStatement) i
+movementIn f b k i = movementBy (placeOf f b k) (getD (statementsOf (codingOf f) f b) (k - 1) noStatement) i
 
 abbrev pub complementBy : Place → Statement → (i j : ℕ) → ComplementAnswer
 complementBy (At first len) s i j = complementAmong (s .movements) i j
 complementBy (Refused n r) s i j = refusedComplement n r
 
 unfoldable pub complementIn : Form → List ℕ → (k i j : ℕ) → ComplementAnswer
-complementIn f b k i j = complementBy (placeOf f b k) (getD (statementsOf july f b) (k - 1) noStatement) i j
+complementIn f b k i j = complementBy (placeOf f b k) (getD (statementsOf (codingOf f) f b) (k - 1) noStatement) i j
 
 -- the bytes of one statement
 pub record Single (f : Form) (b : List ℕ) : Type 0 where
   pub one : Statement
-  pub reads : Reads july f b (one ∷ [])
+  pub reads : Reads (codingOf f) f b (one ∷ [])
 
 -- the place after so many movements
 unfoldable pub stepsAfter : Form → List ℕ → (j at : ℕ) → ℕ
@@ -94,4 +94,4 @@ stepsAfter f b (suc j) at = stepsAfter f b j (stepOf b f at .next)
 
 -- the place of movement i; 0, where the 01 stands, for none
 unfoldable pub movementPlace : Form → List ℕ → ℕ → ℕ
-movementPlace f b i = pick (outside i (movementsIn (checkOf july f b))) 0 (stepsAfter f b (i - 1) (recordSize + lineEnd f))
+movementPlace f b i = pick (outside i (movementsIn (checkOf (codingOf f) f b))) 0 (stepsAfter f b (i - 1) (recordSize + lineEnd f))

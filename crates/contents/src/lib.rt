@@ -3,7 +3,7 @@ ghost use mathlib.Core.Path.{_≡_};
 ghost use mathlib.Core.List.{List, _∷_, []};
 ghost use Rattle.grammar.specs.Statements.{Statement};
 ghost use Rattle.grammar.specs.Files.{Reads};
-ghost use Rattle.records.specs.July.{july};
+ghost use Rattle.records.specs.July.{codingOf};
 ghost use Rattle.contents.specs.Heads.{noHead, headAmong, headAt};
 ghost use Rattle.contents.specs.Movements.{Single, stepsAfter, movementPlace, movementAmong, complementAmong, refusedComplement};
 ghost use Rattle.contents.specs.Earliest.{earlierOf, earliestOf};
@@ -119,7 +119,7 @@ pub fn movements_in(form: Form, part: &[u8]) -> u64
 // The head of a statement's part: its first record is the 01, its last the 07.
 fn head_in(form: Form, part: &[u8]) -> HeadAnswer
     requires { ⌜ Single form (now part) ⌝ }
-    ensures { λ h. ⌜ ((s : Statement) → Reads july form (now (part .entry)) (s ∷ []) → h ≡ headAmong s) ⌝ }
+    ensures { λ h. ⌜ ((s : Statement) → Reads (codingOf form) form (now (part .entry)) (s ∷ []) → h ≡ headAmong s) ⌝ }
 {
     let width = 120 + form.line_end as usize;
     let last = part.len() - width;
@@ -180,7 +180,7 @@ fn movement_place(form: Form, part: &[u8], i: u64) -> usize
 
 fn movement_in(form: Form, part: &[u8], i: u64) -> MovementAnswer
     requires { ⌜ Single form (now part) ⌝ }
-    ensures { λ r. ⌜ ((s : Statement) → Reads july form (now (part .entry)) (s ∷ []) → r ≡ movementAmong (s .movements) i) ⌝ }
+    ensures { λ r. ⌜ ((s : Statement) → Reads (codingOf form) form (now (part .entry)) (s ∷ []) → r ≡ movementAmong (s .movements) i) ⌝ }
 {
     let at = movement_place(form, part, i);
     if at == 0 {
@@ -227,7 +227,7 @@ fn no_complement(number: u64, at: u64) -> ComplementAnswer
 
 fn complement_in(form: Form, part: &[u8], i: u64, j: u64) -> ComplementAnswer
     requires { ⌜ Single form (now part) ⌝ }
-    ensures { λ r. ⌜ ((s : Statement) → Reads july form (now (part .entry)) (s ∷ []) → r ≡ complementAmong (s .movements) i j) ⌝ }
+    ensures { λ r. ⌜ ((s : Statement) → Reads (codingOf form) form (now (part .entry)) (s ∷ []) → r ≡ complementAmong (s .movements) i j) ⌝ }
 {
     let at = movement_place(form, part, i);
     if at == 0 {
@@ -273,7 +273,7 @@ fn earlier(kept: u32, day: u32) -> u32
 
 // The earliest old date, from statement to statement by the cursor, with no check of its own.
 fn earliest_day(form: Form, file: &[u8]) -> u32
-    ensures { λ d. ⌜ ((ss : List Statement) → Reads july form (now (file .entry)) ss → d ≡ earliestOf ss) ⌝ }
+    ensures { λ d. ⌜ ((ss : List Statement) → Reads (codingOf form) form (now (file .entry)) ss → d ≡ earliestOf ss) ⌝ }
 {
     let mut day: u32 = 0;
     let mut at: usize = 0;

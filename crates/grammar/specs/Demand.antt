@@ -8,7 +8,8 @@ use Rattle.grammar.specs.Answer.{Counts, Answer, accepted}
 use Rattle.grammar.specs.Statements.{Statement, countsOf}
 use Rattle.grammar.specs.Files.{Coding, canonical, Gives}
 
-pub record Demand2 (C : Coding) (check : Form → List ℕ → Answer) : Type 0 where
-  pub accepts : (f : Form) (b : List ℕ) (ss : List Statement) → Gives C f b ss → check f b ≡ accepted (countsOf ss)
-  pub only : (f : Form) (b : List ℕ) (c : Counts) → canonical C f b ≡ b → check f b ≡ accepted c → (ss : List Statement) × Gives C f b ss
-  pub alike : (f : Form) (b : List ℕ) → check f b ≡ check f (canonical C f b)
+-- Which coding a file has hangs on its form.
+pub record Demand2 (C : Form → Coding) (check : Form → List ℕ → Answer) : Type 0 where
+  pub accepts : (f : Form) (b : List ℕ) (ss : List Statement) → Gives (C f) f b ss → check f b ≡ accepted (countsOf ss)
+  pub only : (f : Form) (b : List ℕ) (c : Counts) → canonical (C f) f b ≡ b → check f b ≡ accepted c → (ss : List Statement) × Gives (C f) f b ss
+  pub alike : (f : Form) (b : List ℕ) → check f b ≡ check f (canonical (C f) f b)

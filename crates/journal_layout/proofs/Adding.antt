@@ -18,7 +18,7 @@ use Rattle.grammar.specs.Statements.{Statement}
 use Rattle.grammar.specs.Files.{Reads, Writable}
 use Rattle.grammar.specs.Parts.{sizeOf}
 use Rattle.grammar.proofs.Tests.{clash}
-use Rattle.records.specs.July.{recordSize, july}
+use Rattle.records.specs.July.{recordSize, july, codingOf}
 use Rattle.contents.specs.Heads.{recordAtOf}
 use Rattle.contents.proofs.Heading.{length-part}
 use Rattle.bodies.specs.Bodies.{kept, bodyOf, openingText, closingText, closingIn, single, statementOf}
@@ -78,7 +78,7 @@ unfolding entryPut entryOf
 entry-put-value {t} w k y l =
     rw (eq-eqb (length y) entrySize l, eq-eqb (length (openingText t)) recordSize (opening-length w), eq-eqb (length (closingText t)) recordSize (closing-length w))
 
-module _ {f : Form} {x : List ℕ} {t : Statement} (r : Reads july f x (t ∷ [])) where
+module _ {f : Form} {x : List ℕ} {t : Statement} (r : Reads (codingOf f) f x (t ∷ [])) where
   -- the same of its 01 and 07 as they stand, whatever their zeros
   pub entry-value : (k n : ℕ) (y : List ℕ) → n ≡ sizeOf t → length y ≡ entrySize → entryPut k n (recordAtOf x 0) (closingIn f x) y ≡ entryOf k t
   unfolding kept
@@ -99,20 +99,20 @@ module _ {j : List ℕ} {H : List Statement} (g : Holding j H) (n : ℕ) (l : li
   x = linesFrom j k n
 
   -- the test, where the lines stand alone and are those of a statement
-  pub fits-value : {t : Statement} → single x ≡ true → Reads july plain x (t ∷ []) → n ≡ sizeOf t
+  pub fits-value : {t : Statement} → single x ≡ true → Reads (codingOf plain) plain x (t ∷ []) → n ≡ sizeOf t
       → fitsIn j e k n ≡ pick (sameBytes (entryBytes j e) (entryOf k t)) (follows t H) false
   unfolding fitsIn
   fits-value {t} s r z = rw (s, entry-value r k n (replicate entrySize 32) z refl, judged-value r g, look-date r, look-balance r)
 
   -- as many lines as the statement has records
-  size-there : {t : Statement} → Reads july plain x (t ∷ []) → n ≡ sizeOf t
+  size-there : {t : Statement} → Reads (codingOf plain) plain x (t ∷ []) → n ≡ sizeOf t
   unfolding widthOf
   size-there {t} r =
       let a : length x ≡ recordSize * n = length-take-le (recordSize * n) (drop (lineAt k) j) (omega (arith, length-drop (lineAt k) j)) in
       omega (arith, length-part r)
 
   pub record Fit (t : Statement) : Type 0 where
-    pub reads : Reads july plain x (t ∷ [])
+    pub reads : Reads (codingOf plain) plain x (t ∷ [])
     pub body : x ≡ bodyOf t
     pub size : n ≡ sizeOf t
     pub entry : entryBytes j e ≡ entryOf k t

@@ -22,7 +22,7 @@ use Rattle.layouts.specs.Zone.{part}
 use Rattle.grammar.specs.Statements.{Statement}
 use Rattle.grammar.specs.Files.{pieces, Reads, Writable}
 use Rattle.grammar.specs.Parts.{sizeOf, recordsBefore, noStatement}
-use Rattle.records.specs.July.{recordSize, july, noDebitZero}
+use Rattle.records.specs.July.{recordSize, july, noDebitZero, codingOf}
 use Rattle.bodies.specs.Bodies.{bodyOf, single, statementOf}
 use Rattle.bodies.proofs.Single.{body-reads, body-own, body-single, reads-statement}
 use Rattle.entries.specs.Entries.{mostEntries, entrySize, tableSize, lineAt, noEntry, fieldsOf, entryBytes, entryIn, linesFrom, bodyAt}
@@ -306,7 +306,7 @@ module _ {j : List ℕ} (long : tableSize ≤ length j) where
       let x = holds-first H (t ∷ B) g in
       let a = append-assoc H (t ∷ []) B in
       let p : single (linesFrom j (linesOf H) (sizeOf t)) ≡ true = rw (s .lines) (body-single (s .alone)) in
-      let q : Reads july plain (linesFrom j (linesOf H) (sizeOf t)) (t ∷ []) = rw (s .lines) (body-reads (s .alone)) in
+      let q : Reads (codingOf plain) plain (linesFrom j (linesOf H) (sizeOf t)) (t ∷ []) = rw (s .lines) (body-reads (s .alone)) in
       let y : fitsIn j (length H) (linesOf H) (sizeOf t) ≡ true =
       fits-value x (sizeOf t) (s .inside) p q refl ∙ rw (s .entry, equal-same (entryOf (linesOf H) t)) (r .0) in
       let z : walkIn m (length (H ++ (t ∷ []))) (linesOf (H ++ (t ∷ []))) j ≡ true =
@@ -362,7 +362,7 @@ pub sound-unique : {j : List ℕ} {ss ts : List Statement} → Journal j ss → 
 sound-unique g h = sym (journal-list g) ∙ journal-list h
 
 -- no body in it has a debit zero
-pub sound-no-debit-zero : (j : List ℕ) → soundIn j ≡ true → (e : ℕ) → e < length (heldOf j) → noDebitZero (pieces july plain (bodyAt j e)) ≡ true
+pub sound-no-debit-zero : (j : List ℕ) → soundIn j ≡ true → (e : ℕ) → e < length (heldOf j) → noDebitZero (pieces (codingOf plain) plain (bodyAt j e)) ≡ true
 sound-no-debit-zero j h e i =
     let g = journal-held (sound-journal j h) .holding in
     rw (there-body g e i) (body-own (there-alone g e i))

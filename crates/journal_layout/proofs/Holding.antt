@@ -16,7 +16,7 @@ use Rattle.grammar.specs.Record.{sameKey}
 use Rattle.grammar.specs.Statements.{Statement}
 use Rattle.grammar.specs.Files.{Reads, Writable}
 use Rattle.grammar.specs.Parts.{sizeOf, recordsBefore, noStatement}
-use Rattle.records.specs.July.{recordSize, july}
+use Rattle.records.specs.July.{recordSize, july, codingOf}
 use Rattle.records.specs.Looks.{lookOf}
 use Rattle.records.specs.Tests.{sameKeyIn}
 use Rattle.contents.specs.Heads.{recordAtOf}
@@ -149,9 +149,9 @@ module _ {j : List ℕ} {H : List Statement} (g : Holding j H) (i : ℕ) (h : i 
 
 -- ---- the judgement
 
-module _ {f : Form} {x : List ℕ} {t : Statement} (r : Reads july f x (t ∷ [])) where
+module _ {f : Form} {x : List ℕ} {t : Statement} (r : Reads (codingOf f) f x (t ∷ [])) where
   -- one statement of its account, or of another
-  pub later-value : (last : Judgement) {e : Form} {h : List ℕ} {s : Statement} → Reads july e h (s ∷ [])
+  pub later-value : (last : Judgement) {e : Form} {h : List ℕ} {s : Statement} → Reads (codingOf e) e h (s ∷ [])
       → laterOf last e h x ≡ pick (sameKey (s .key) (t .key)) (After (s .new-date) (s .new-balance)) last
   unfolding laterOf sameKeyIn lookOf
   later-value last {e} {h} {s} q =

@@ -14,7 +14,7 @@ use Rattle.grammar.specs.Record.{sameKey}
 use Rattle.grammar.specs.Statements.{Statement}
 use Rattle.grammar.specs.Files.{Reads}
 use Rattle.grammar.specs.Parts.{sizeOf, recordsBefore, noStatement}
-use Rattle.records.specs.July.{recordSize, july}
+use Rattle.records.specs.July.{recordSize, codingOf}
 use Rattle.readers.specs.declared.Place.{Place}
 use Rattle.readers.specs.Answers.{paperPlace}
 use Rattle.readers.proofs.Paper.{none-there}
@@ -120,7 +120,7 @@ module _ {j : List ℕ} {r : Opening} {j′ : List ℕ} (a : Opens j r j′) whe
 -- ---- what is said of another statement s
 
 -- by the statements of a sound journal
-module _ {j : List ℕ} {ss : List Statement} (g : Journal j ss) {f : Form} {b : List ℕ} {s : Statement} (t : Reads july f b (s ∷ [])) {r : Judgement} (a : Judged j (length ss) f b r) where
+module _ {j : List ℕ} {ss : List Statement} (g : Journal j ss) {f : Form} {b : List ℕ} {s : Statement} (t : Reads (codingOf f) f b (s ∷ [])) {r : Judgement} (a : Judged j (length ss) f b r) where
   judged-is : r ≡ judgementOf s ss
   judged-is = a .answer ∙ judged-value t (journal-held g .holding)
 
@@ -145,7 +145,7 @@ module _ {j : List ℕ} {ss : List Statement} (g : Journal j ss) {f : Form} {b :
     judged-after before h o = ap paperJudgement (new-is ∙ ap (lastOf J.First) o ∙ last-of J.First before h)
 
 -- by one more statement h
-module _ {last : Judgement} {f e : Form} {x b : List ℕ} {h s : Statement} (q : Reads july e x (h ∷ [])) (t : Reads july f b (s ∷ [])) {r : Judgement} (a : Later last e x b r) where
+module _ {last : Judgement} {f e : Form} {x b : List ℕ} {h s : Statement} (q : Reads (codingOf e) e x (h ∷ [])) (t : Reads (codingOf f) f b (s ∷ [])) {r : Judgement} (a : Later last e x b r) where
   pub later-own : sameKey (h .key) (s .key) ≡ true → paperJudgement r ≡ record { held = false; first = false; date = h .new-date; balance = h .new-balance }
   later-own k = ap paperJudgement (a .answer ∙ later-value t last q) ∙ rw k
 

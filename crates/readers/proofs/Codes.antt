@@ -9,9 +9,10 @@ use lib.ListN.{take}
 use lib.Seq.{take-take}
 use Rattle.zones.specs.Copy.{sameBytes}
 use Rattle.zones.specs.Text.{bytes}
+use Rattle.framing.specs.declared.Form.{Form}
 use Rattle.grammar.specs.Record.{Rec, isMovement, isComplement, isClosing}
 use Rattle.grammar.specs.Files.{Fine, recOf}
-use Rattle.records.specs.July.{recordSize, isCode, unknownCode, decodeRecord, july}
+use Rattle.records.specs.July.{recordSize, isCode, unknownCode, decodeRecord, codingOf}
 use Rattle.records.proofs.Coded.{Coded, is01, is04, is05, is07, other, coded}
 
 pub record Told (b : List ℕ) (r : Rec) : Type 0 where
@@ -31,8 +32,8 @@ known b h = by (coded b h)
     by (is07 p a) = rw (a .values) (record { four = other "04" "07" b refl p; five = other "05" "07" b refl p; seven = p })
 
 -- and so it does in the piece of a record
-pub told : (p : List ℕ) → Fine july (take recordSize p) → Told p (recOf july p)
-told p f =
-    let k = known (take recordSize p) (f .known) in
+pub told : (f : Form) (p : List ℕ) → Fine (codingOf f) (take recordSize p) → Told p (recOf (codingOf f) p)
+told f p o =
+    let k = known (take recordSize p) (o .known) in
     let e : (c : String) → isCode c p ≡ isCode c (take recordSize p) = λ c. ap (sameBytes (bytes c)) (sym (take-take 2 recordSize p (omega arith))) in
     record { four = e "04" ∙ k .four; five = e "05" ∙ k .five; seven = e "07" ∙ k .seven }

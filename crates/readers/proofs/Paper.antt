@@ -14,7 +14,7 @@ use Rattle.grammar.specs.Answer.{refused}
 use Rattle.grammar.specs.Statements.{Statement}
 use Rattle.grammar.specs.Files.{Reads, checkOf}
 use Rattle.grammar.specs.Parts.{sizeOf, recordsBefore, noStatement}
-use Rattle.records.specs.July.{recordSize, july}
+use Rattle.records.specs.July.{recordSize, codingOf}
 use Rattle.records.proofs.Theorems.{counts, reads, unique}
 use Rattle.readers.specs.declared.Place.{Place}
 use Rattle.readers.specs.declared.Place.the-variants.{At, Refused}
@@ -30,11 +30,11 @@ none-there k n h = by (eqb k 0) refl
     by false e = let z = eqb-false k 0 e in lt-ltb n k (h (omega arith))
 
 module _ {f : Form} {b : List ℕ} {k : ℕ} {r : Place} (g : StatementPlace f b k r) where
-  pub place-refused : {n i : ℕ} → checkOf july f b ≡ refused n i → paperPlace r ≡ record { number = n; at = i; first = 0; len = 0 }
+  pub place-refused : {n i : ℕ} → checkOf (codingOf f) f b ≡ refused n i → paperPlace r ≡ record { number = n; at = i; first = 0; len = 0 }
   unfolding placeOf
   place-refused p = ap paperPlace (g .answer) ∙ rw p
 
-  module _ {ss : List Statement} (t : Reads july f b ss) where
+  module _ {ss : List Statement} (t : Reads (codingOf f) f b ss) where
     among : r ≡ placeAmong (widthOf recordSize f) ss k
     unfolding placeOf
     among = g .answer ∙ rw (counts t, unique (reads f b (counts t)) t)

@@ -16,7 +16,7 @@ use Rattle.grammar.specs.Statements.{Statement}
 use Rattle.grammar.specs.Files.{Reads, statementsOf, checkOf}
 use Rattle.grammar.specs.Parts.{sizeOf, recordsBefore, noStatement, partOf}
 use Rattle.grammar.proofs.Rows.{counts-path}
-use Rattle.records.specs.July.{recordSize, july}
+use Rattle.records.specs.July.{recordSize, codingOf}
 use Rattle.records.proofs.Theorems.{counts, reads, unique, part-reads}
 use Rattle.statements.specs.declared.Checked.the-variants as C
 use Rattle.statements.specs.Answers.{checkedOf}
@@ -44,7 +44,7 @@ abbrev statementsIn : Answer → ℕ
 statementsIn (accepted c) = c .statements
 statementsIn (refused n r) = 0
 
-module _ {f : Form} {b : List ℕ} {ss : List Statement} (r : Reads july f b ss) where
+module _ {f : Form} {b : List ℕ} {ss : List Statement} (r : Reads (codingOf f) f b ss) where
   -- j ends from the place after i statements on lead to the place after i + j
   walked-on : (j i : ℕ) → i + j ≤ length ss → endsAfter f b j (recordsBefore i ss * widthOf recordSize f) ≡ recordsBefore (i + j) ss * widthOf recordSize f
   unfolding endsAfter
@@ -72,11 +72,11 @@ pub record Stood (w : ℕ) (ss : List Statement) (k x y : ℕ) : Type 0 where
   pub first : x ≡ recordsBefore (k - 1) ss * w
   pub end : y ≡ x + sizeOf (getD ss (k - 1) noStatement) * w
 
-module _ (f : Form) (b : List ℕ) (k : ℕ) {s m c : ℕ} (e : C.Accepted s m c ≡ checkedOf (checkOf july f b)) where
-  yes : checkOf july f b ≡ accepted (record { statements = s; movements = m; complements = c })
-  yes = accepted-of (checkOf july f b) e
+module _ (f : Form) (b : List ℕ) (k : ℕ) {s m c : ℕ} (e : C.Accepted s m c ≡ checkedOf (checkOf (codingOf f) f b)) where
+  yes : checkOf (codingOf f) f b ≡ accepted (record { statements = s; movements = m; complements = c })
+  yes = accepted-of (checkOf (codingOf f) f b) e
 
-  many : length (statementsOf july f b) ≡ s
+  many : length (statementsOf (codingOf f) f b) ≡ s
   many =
       ap statementsIn (sym (counts (reads f b yes)) ∙ yes)
 
@@ -89,13 +89,13 @@ module _ (f : Form) (b : List ℕ) (k : ℕ) {s m c : ℕ} (e : C.Accepted s m c
   unfolding placeOf
   over h =
       let z : k ≡ 0 → ⊥ = λ q. omega arith in
-      sym (rw (yes, ne-eqb k 0 z, lt-ltb (length (statementsOf july f b)) k (omega (arith, many))))
+      sym (rw (yes, ne-eqb k 0 z, lt-ltb (length (statementsOf (codingOf f) f b)) k (omega (arith, many))))
 
   module _ {x y : ℕ} (z : k ≡ 0 → ⊥) (h : k ≤ s) (p : x ≡ endsAfter f b (k - 1) 0) (q : y ≡ endAfter f b x) where
     -- the walk to it and over it
-    pub stood : Stood (widthOf recordSize f) (statementsOf july f b) k x y
+    pub stood : Stood (widthOf recordSize f) (statementsOf (codingOf f) f b) k x y
     stood =
-        let ss = statementsOf july f b in
+        let ss = statementsOf (codingOf f) f b in
         let w = widthOf recordSize f in
         let r = reads f b yes in
         let l : k - 1 < length ss = omega (arith, many) in
@@ -108,23 +108,23 @@ module _ (f : Form) (b : List ℕ) (k : ℕ) {s m c : ℕ} (e : C.Accepted s m c
     pub there : At x (y - x) ≡ placeOf f b k
     unfolding placeOf
     there =
-        let n = sizeOf (getD (statementsOf july f b) (k - 1) noStatement) * widthOf recordSize f in
+        let n = sizeOf (getD (statementsOf (codingOf f) f b) (k - 1) noStatement) * widthOf recordSize f in
         let v : y - x ≡ n = rw (stood .end) (add-sub-cancel-left x n) in
-        ap₂ At (stood .first) v ∙ sym (rw (yes, ne-eqb k 0 z, le-ltb (length (statementsOf july f b)) k (omega (arith, many))))
+        ap₂ At (stood .first) v ∙ sym (rw (yes, ne-eqb k 0 z, le-ltb (length (statementsOf (codingOf f) f b)) k (omega (arith, many))))
 
 -- the file's refusal
-pub not-read : (f : Form) (b : List ℕ) (k : ℕ) {n r : ℕ} → C.Refused n r ≡ checkedOf (checkOf july f b) → Refused n r ≡ placeOf f b k
+pub not-read : (f : Form) (b : List ℕ) (k : ℕ) {n r : ℕ} → C.Refused n r ≡ checkedOf (checkOf (codingOf f) f b) → Refused n r ≡ placeOf f b k
 unfolding placeOf
-not-read f b k e = sym (rw (refused-of (checkOf july f b) e))
+not-read f b k e = sym (rw (refused-of (checkOf (codingOf f) f b) e))
 
 -- a place that is given: the file is accepted, and has statement k there
 pub record Found (f : Form) (b : List ℕ) (k x n : ℕ) : Type 0 where
   pub counts : Counts
-  pub yes : checkOf july f b ≡ accepted counts
+  pub yes : checkOf (codingOf f) f b ≡ accepted counts
   pub some : k ≡ 0 → ⊥
-  pub few : k ≤ length (statementsOf july f b)
-  pub first : x ≡ recordsBefore (k - 1) (statementsOf july f b) * widthOf recordSize f
-  pub len : n ≡ sizeOf (getD (statementsOf july f b) (k - 1) noStatement) * widthOf recordSize f
+  pub few : k ≤ length (statementsOf (codingOf f) f b)
+  pub first : x ≡ recordsBefore (k - 1) (statementsOf (codingOf f) f b) * widthOf recordSize f
+  pub len : n ≡ sizeOf (getD (statementsOf (codingOf f) f b) (k - 1) noStatement) * widthOf recordSize f
 
 same-at : {x y n m : ℕ} → At x n ≡ At y m → (x ≡ y) × (n ≡ m)
 same-at e = (cc, cc)
@@ -134,21 +134,21 @@ apart e = let z : _≡_ {A = ℕ} 0 1 = cc in omega arith
 
 pub found : (f : Form) (b : List ℕ) (k : ℕ) {x n : ℕ} → At x n ≡ placeOf f b k → Found f b k x n
 unfolding placeOf
-found f b k {x} {n} e = by (checkOf july f b) (eqb k 0) (ltb (length (statementsOf july f b)) k) refl refl refl e
+found f b k {x} {n} e = by (checkOf (codingOf f) f b) (eqb k 0) (ltb (length (statementsOf (codingOf f) f b)) k) refl refl refl e
   where
-    by : (a : Answer) (t u : Bool) → checkOf july f b ≡ a → eqb k 0 ≡ t → ltb (length (statementsOf july f b)) k ≡ u
-        → At x n ≡ placeBy a (widthOf recordSize f) (statementsOf july f b) k → Found f b k x n
+    by : (a : Answer) (t u : Bool) → checkOf (codingOf f) f b ≡ a → eqb k 0 ≡ t → ltb (length (statementsOf (codingOf f) f b)) k ≡ u
+        → At x n ≡ placeBy a (widthOf recordSize f) (statementsOf (codingOf f) f b) k → Found f b k x n
     by (refused m r) t u p q v g = absurd (apart g)
     by (accepted c) true u p q v g = absurd (apart (rw q at g))
     by (accepted c) false true p q v g = absurd (apart (rw (q, v) at g))
     by (accepted c) false false p q v g =
         let w = same-at (rw (q, v) at g) in
-        record { counts = c; yes = p; some = eqb-false k 0 q; few = ltb-false (length (statementsOf july f b)) k v; first = w .0; len = w .1 }
+        record { counts = c; yes = p; some = eqb-false k 0 q; few = ltb-false (length (statementsOf (codingOf f) f b)) k v; first = w .0; len = w .1 }
 
 -- what the code cuts out
 module _ (f : Form) (b : List ℕ) (k : ℕ) {x n : ℕ} (e : At x n ≡ placeOf f b k) where
   -- the part of the file that the definitions name
-  pub part-is : statementIn f b k ≡ partOf july f b k
+  pub part-is : statementIn f b k ≡ partOf (codingOf f) f b k
   unfolding statementIn
   part-is = rw (← e)
 
@@ -162,7 +162,7 @@ module _ (f : Form) (b : List ℕ) (k : ℕ) {x n : ℕ} (e : At x n ≡ placeOf
   pub part-inside : x + n ≤ length b
   part-inside =
       let g = found f b k e in
-      let ss = statementsOf july f b in
+      let ss = statementsOf (codingOf f) f b in
       let w = widthOf recordSize f in
       let r = reads f b (g .yes) in
       let o = g .some in
@@ -172,11 +172,11 @@ module _ (f : Form) (b : List ℕ) (k : ℕ) {x n : ℕ} (e : At x n ≡ placeOf
       rw z (before-inside r (k - 1 + 1) (omega arith))
 
   -- THE PART IS A FILE OF ONE STATEMENT: it reads as statement k, and nothing else
-  pub part-alone : Reads july f (statementIn f b k) (getD (statementsOf july f b) (k - 1) noStatement ∷ [])
+  pub part-alone : Reads (codingOf f) f (statementIn f b k) (getD (statementsOf (codingOf f) f b) (k - 1) noStatement ∷ [])
   part-alone =
       let g = found f b k e in
       let o = g .some in
-      let l : k - 1 < length (statementsOf july f b) = omega (arith, g .few) in
+      let l : k - 1 < length (statementsOf (codingOf f) f b) = omega (arith, g .few) in
       let z : k - 1 + 1 ≡ k = omega arith in
       rw part-is (rw z at (part-reads (reads f b (g .yes)) (k - 1) l))
 
@@ -186,13 +186,13 @@ unfolding statementIn
 part-none f b k e = rw (← e)
 
 -- statement 1 of a file of one statement is the whole file
-alone-place : (f : Form) (p : List ℕ) (s : Statement) → Reads july f p (s ∷ []) → At 0 (sizeOf s * widthOf recordSize f) ≡ placeOf f p 1
+alone-place : (f : Form) (p : List ℕ) (s : Statement) → Reads (codingOf f) f p (s ∷ []) → At 0 (sizeOf s * widthOf recordSize f) ≡ placeOf f p 1
 unfolding placeOf recordsBefore
 alone-place f p s r =
-    let q : statementsOf july f p ≡ s ∷ [] = unique (reads f p (counts r)) r in
+    let q : statementsOf (codingOf f) f p ≡ s ∷ [] = unique (reads f p (counts r)) r in
     sym (rw (counts r, q, zero-mul (widthOf recordSize f)))
 
-alone-part : (f : Form) (p : List ℕ) (s : Statement) → Reads july f p (s ∷ []) → length p ≡ sizeOf s * widthOf recordSize f → statementIn f p 1 ≡ p
+alone-part : (f : Form) (p : List ℕ) (s : Statement) → Reads (codingOf f) f p (s ∷ []) → length p ≡ sizeOf s * widthOf recordSize f → statementIn f p 1 ≡ p
 alone-part f p s r l =
     let w = widthOf recordSize f in
     sym (part-cut f p 1 (alone-place f p s r)) ∙ rw (add-sub-cancel-left 0 (sizeOf s * w)) (take-all (sizeOf s * w) p (omega arith))
@@ -202,7 +202,7 @@ pub part-again : (f : Form) (b : List ℕ) (k : ℕ) {x n : ℕ} → At x n ≡ 
 part-again f b k {x} {n} e =
     let g = found f b k e in
     let p = statementIn f b k in
-    let s = getD (statementsOf july f b) (k - 1) noStatement in
+    let s = getD (statementsOf (codingOf f) f b) (k - 1) noStatement in
     let c : p ≡ take n (drop x b) = sym (part-cut f b k e) ∙ rw (add-sub-cancel-left x n) in
     let l : length p ≡ n = ap length c ∙ length-take-le n (drop x b) (omega (arith, length-drop x b, part-inside f b k e)) in
     alone-part f p s (part-alone f b k e) (l ∙ g .len)

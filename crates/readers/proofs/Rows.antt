@@ -18,8 +18,8 @@ use Rattle.grammar.proofs.Rows.{addsThen}
 use Rattle.grammar.proofs.Parts.{all-drop, map-drop}
 use Rattle.grammar.proofs.Canonical.{wide-all}
 use Rattle.grammar.proofs.Exact.{reads-flat, reads-records, reads-fine}
-use Rattle.records.specs.July.{recordSize, july, july2004}
-use Rattle.records.proofs.Lawful.{july-lawful}
+use Rattle.records.specs.July.{recordSize, july, codingOf, editionOf}
+use Rattle.records.proofs.Lawful.{lawful}
 
 -- the records behind some 05
 pub drop-adds : (e : List ℕ) (ts : List (List ℕ)) (l : List Rec) (n : ℕ) → drop (length ts + n) (addsThen e ts l) ≡ drop n l
@@ -45,22 +45,22 @@ some f = omega arith
 pieces-flat : (w : ℕ) (ps : List (List ℕ)) → 0 < w → Wide w ps → chunks w (length (flat ps) / w) (flat ps) ≡ ps
 pieces-flat w ps h x = rw (length-flat w ps x, mul-div-cancel (length ps) h) (chunks-flat w ps x)
 
-module _ {f : Form} {b : List ℕ} {ss : List Statement} (r : Reads july f b ss) where
+module _ {f : Form} {b : List ℕ} {ss : List Statement} (r : Reads (codingOf f) f b ss) where
   -- the bytes from record n on, from 0, are those of the records from it on
-  pub from-record : (n : ℕ) → drop (n * widthOf recordSize f) b ≡ flat (drop n (pieces july f b))
+  pub from-record : (n : ℕ) → drop (n * widthOf recordSize f) b ≡ flat (drop n (pieces (codingOf f) f b))
   from-record n =
-      ap (drop (n * widthOf recordSize f)) (sym (reads-flat july july-lawful r)) ∙ flat-drop (widthOf recordSize f) n (pieces july f b) (wide-all july july-lawful f b)
+      ap (drop (n * widthOf recordSize f)) (sym (reads-flat (codingOf f) (lawful f) r)) ∙ flat-drop (widthOf recordSize f) n (pieces (codingOf f) f b) (wide-all (codingOf f) (lawful f) f b)
 
   -- and are cut into their pieces
-  pub pieces-from : (n : ℕ) → piecesOf recordSize f (drop (n * widthOf recordSize f) b) ≡ drop n (pieces july f b)
+  pub pieces-from : (n : ℕ) → piecesOf recordSize f (drop (n * widthOf recordSize f) b) ≡ drop n (pieces (codingOf f) f b)
   pieces-from n =
       ap (piecesOf recordSize f) (from-record n)
-      ∙ pieces-flat (widthOf recordSize f) (drop n (pieces july f b)) (some f) (all-drop _ n (pieces july f b) (wide-all july july-lawful f b))
+      ∙ pieces-flat (widthOf recordSize f) (drop n (pieces (codingOf f) f b)) (some f) (all-drop _ n (pieces (codingOf f) f b) (wide-all (codingOf f) (lawful f) f b))
 
   -- which hold the records
-  pub records-from : (n : ℕ) → map (recOf july) (drop n (pieces july f b)) ≡ drop n (allRecords july2004 ss)
-  records-from n = sym (map-drop (recOf july) n (pieces july f b)) ∙ ap (drop n) (reads-records july july-lawful r)
+  pub records-from : (n : ℕ) → map (recOf (codingOf f)) (drop n (pieces (codingOf f) f b)) ≡ drop n (allRecords (editionOf f) ss)
+  records-from n = sym (map-drop (recOf (codingOf f)) n (pieces (codingOf f) f b)) ∙ ap (drop n) (reads-records (codingOf f) (lawful f) r)
 
   -- and are fine
-  pub fine-from : (n : ℕ) → All (λ p. Fine july (take recordSize p)) (drop n (pieces july f b))
-  fine-from n = all-drop _ n (pieces july f b) (reads-fine july july-lawful r)
+  pub fine-from : (n : ℕ) → All (λ p. Fine july (take recordSize p)) (drop n (pieces (codingOf f) f b))
+  fine-from n = all-drop _ n (pieces (codingOf f) f b) (reads-fine (codingOf f) (lawful f) r)

@@ -16,7 +16,7 @@ use Rattle.grammar.specs.Statements.{Statement, allRecords}
 use Rattle.grammar.specs.Files.{recOf, pieces, Reads, statementsOf}
 use Rattle.grammar.specs.Parts.{sizeOf, recordsBefore, noStatement, partOf}
 use Rattle.grammar.proofs.Parts.{drop-before}
-use Rattle.records.specs.July.{recordSize, july, july2004}
+use Rattle.records.specs.July.{recordSize, codingOf, editionOf}
 use Rattle.records.proofs.Theorems.{counts, reads, unique}
 use Rattle.readers.specs.Places.{endAfter}
 use Rattle.readers.proofs.Rows.{some, before-next, from-record, records-from}
@@ -24,11 +24,11 @@ use Rattle.readers.proofs.Cursor.{cursor}
 use Rattle.readers.proofs.Placed.{before-inside}
 
 -- no records, no pieces
-no-pieces : (ps : List (List ℕ)) → map (recOf july) ps ≡ [] → ps ≡ []
-no-pieces [] e = refl
-no-pieces (p ∷ ps) e = absurd (let z : _≡_ {A = ℕ} 0 1 = cc in omega arith)
+no-pieces : (f : Form) (ps : List (List ℕ)) → map (recOf (codingOf f)) ps ≡ [] → ps ≡ []
+no-pieces f [] e = refl
+no-pieces f (p ∷ ps) e = absurd (let z : _≡_ {A = ℕ} 0 1 = cc in omega arith)
 
-module _ {f : Form} {b : List ℕ} {ss : List Statement} (r : Reads july f b ss) where
+module _ {f : Form} {b : List ℕ} {ss : List Statement} (r : Reads (codingOf f) f b ss) where
   -- the place of a statement lies before the file's end
   pub before-end : (j : ℕ) → j < length ss → recordsBefore j ss * widthOf recordSize f < length b
   before-end j h =
@@ -48,7 +48,7 @@ module _ {f : Form} {b : List ℕ} {ss : List Statement} (r : Reads july f b ss)
       let n = recordsBefore (length ss) ss in
       let m = n * widthOf recordSize f in
       let e : length (drop m b) ≡ 0 =
-      ap length (from-record r n ∙ ap flat (no-pieces (drop n (pieces july f b)) (records-from r n ∙ (drop-before july2004 (length ss) ss ∙ ap (allRecords july2004) (drop-length ss))))) in
+      ap length (from-record r n ∙ ap flat (no-pieces f (drop n (pieces (codingOf f) f b)) (records-from r n ∙ (drop-before (editionOf f) (length ss) ss ∙ ap (allRecords (editionOf f)) (drop-length ss))))) in
       omega (arith, e, length-drop m b, before-inside r (length ss) (omega arith))
 
   -- at the place of statement i, from 0, and before the end of the file, there is one more
@@ -70,12 +70,12 @@ module _ {f : Form} {b : List ℕ} {ss : List Statement} (r : Reads july f b ss)
   -- what lies between the two places is statement j + 1
   pub between : (j : ℕ) → j < length ss
       → take (endAfter f b (recordsBefore j ss * widthOf recordSize f) - recordsBefore j ss * widthOf recordSize f) (drop (recordsBefore j ss * widthOf recordSize f) b)
-      ≡ partOf july f b (j + 1)
+      ≡ partOf (codingOf f) f b (j + 1)
   unfolding partOf
   between j h =
       let w = widthOf recordSize f in
       let n = sizeOf (getD ss j noStatement) in
-      let q : statementsOf july f b ≡ ss = unique (reads f b (counts r)) r in
+      let q : statementsOf (codingOf f) f b ≡ ss = unique (reads f b (counts r)) r in
       let z : j + 1 - 1 ≡ j = omega arith in
       let e : endAfter f b (recordsBefore j ss * w) - recordsBefore j ss * w ≡ n * w =
       rw (cursor r j h, before-next j ss h, add-mul (recordsBefore j ss) n w) (add-sub-cancel-left (recordsBefore j ss * w) (n * w)) in

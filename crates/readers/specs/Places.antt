@@ -11,7 +11,7 @@ use Rattle.grammar.specs.Answer.{Answer, accepted, refused}
 use Rattle.grammar.specs.Statements.{Statement}
 use Rattle.grammar.specs.Files.{statementsOf, checkOf}
 use Rattle.grammar.specs.Parts.{sizeOf, recordsBefore, noStatement, partOf}
-use Rattle.records.specs.July.{recordSize, isCode, july}
+use Rattle.records.specs.July.{recordSize, isCode, codingOf}
 use Rattle.readers.specs.declared.Place.{Place}
 use Rattle.readers.specs.declared.Place.the-variants.{At, Refused}
 
@@ -46,7 +46,7 @@ placeBy (accepted c) w ss k = placeAmong w ss k
 placeBy (refused n r) w ss k = Refused n r
 
 unfoldable pub placeOf : Form → List ℕ → ℕ → Place
-placeOf f b k = placeBy (checkOf july f b) (widthOf recordSize f) (statementsOf july f b) k
+placeOf f b k = placeBy (checkOf (codingOf f) f b) (widthOf recordSize f) (statementsOf (codingOf f) f b) k
 
 -- the part of the file at a place, empty on refusal
 abbrev pub partAt : Place → List ℕ → List ℕ
@@ -54,4 +54,4 @@ partAt (At first len) part = part
 partAt (Refused n r) part = []
 
 unfoldable pub statementIn : Form → List ℕ → ℕ → List ℕ
-statementIn f b k = partAt (placeOf f b k) (partOf july f b k)
+statementIn f b k = partAt (placeOf f b k) (partOf (codingOf f) f b k)

@@ -8,13 +8,14 @@ use lib.ListN.{length}
 use lib.IntN.{ℤ}
 use Rattle.zones.specs.Text.{bytes}
 use Rattle.zones.proofs.Copies.{equal-same}
+use Rattle.framing.specs.declared.Form.{Form}
 use Rattle.layouts.specs.Zone.{encode, canon}
 use Rattle.layouts.proofs.PerLayout.{Fits, encode-decode, holds-decode, decode-encode}
 use Rattle.grammar.specs.declared.Key.{Key}
 use Rattle.grammar.specs.Record.{Posting, Rec, opening, movement, complement, closing}
 use Rattle.grammar.specs.Files.{Fine, Lawful}
 use Rattle.records.specs.Layouts.{layout01, layout04, layout07}
-use Rattle.records.specs.July.{recordSize, isCode, layout05Of, layoutFor, decodeRecord, balanceValues, movementValues, writeBalance, writeMovement, writeComplement, encodeRecord, Holds, canonRecord, july}
+use Rattle.records.specs.July.{recordSize, isCode, layout05Of, layoutFor, decodeRecord, balanceValues, movementValues, writeBalance, writeMovement, writeComplement, encodeRecord, Holds, canonRecord, july, codingOf}
 use Rattle.records.proofs.Covered.{covers01, covers04, covers07}
 use Rattle.records.proofs.Coded.{As, as01, as04, as05, as07, Coded, is01, is04, is05, is07, coded}
 use Rattle.records.proofs.Valued.{Judged, judged, fine, written-length, written-judged, written-marks, written-permitted}
@@ -124,3 +125,7 @@ july-lawful =
       fine = written-fine;
       same = same;
     }
+
+-- and so are the records of a file of any form
+pub lawful : (f : Form) → Lawful (codingOf f)
+lawful f = july-lawful

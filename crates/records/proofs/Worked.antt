@@ -19,7 +19,7 @@ use Rattle.grammar.specs.Machine.{judgeOf, scan}
 use Rattle.grammar.specs.Rules.{outOfPlace, differs, misdated, unsummed, secondMmo, tooLong}
 use Rattle.grammar.specs.Files.{pieces, checkOf}
 use Rattle.grammar.specs.Demand.{Demand2}
-use Rattle.records.specs.July.{unknownCode, isMmo, layoutFor, misfit, undated, decodeRecord, writeMovement, repeats, canonRecord, noDebitZero, july}
+use Rattle.records.specs.July.{unknownCode, isMmo, layoutFor, misfit, undated, decodeRecord, writeMovement, repeats, canonRecord, noDebitZero, july, codingOf}
 use Rattle.records.specs.Worked.{nil, counts, cases, written, answers, expected}
 use Rattle.records.proofs.Theorems.{reads, accepted-reads}
 
@@ -38,7 +38,7 @@ nil-debit = refl
 
 -- so a check that refuses files for a debit zero does not meet demand 2
 pub refuses-debit-zero : (check : Form → List ℕ → Answer)
-    → ((f : Form) (b : List ℕ) (c : Counts) → noDebitZero (pieces july f b) ≡ false → check f b ≡ accepted c → ⊥) → Demand2 july check → ⊥
+    → ((f : Form) (b : List ℕ) (c : Counts) → noDebitZero (pieces (codingOf f) f b) ≡ false → check f b ≡ accepted c → ⊥) → Demand2 codingOf check → ⊥
 refuses-debit-zero check refuses d =
     let f : Form = record { «line_end» = 1 } in
     refuses f nil _ nil-debit (accepted-reads check d f nil _ (reads f nil nil-accepted))

@@ -14,6 +14,7 @@ use Rattle.zones.specs.Number.{valueOf}
 use Rattle.zones.specs.Text.{bytes}
 use Rattle.amounts.specs.Amounts.{amountOf, debitZero}
 use Rattle.dates.specs.Days.{dateOf, isDay}
+use Rattle.framing.specs.declared.Form.{Form}
 use Rattle.layouts.specs.Zone.{part, Kind, Ask, Zone, dayIn, valueIn, zoned, dated, run, Values, encode, canon, holdsAll}
 use Rattle.grammar.specs.declared.Key.{Key}
 use Rattle.grammar.specs.Record.{Posting, Rec, opening, movement, complement, closing, Edition}
@@ -234,3 +235,10 @@ july =
       misfit = misfit;
       undated = undated;
     }
+
+-- the records of a file of some form: those of July 2004, whatever the form
+abbrev pub codingOf : Form → Coding
+codingOf f = july
+
+abbrev pub editionOf : Form → Edition
+editionOf f = codingOf f .edition

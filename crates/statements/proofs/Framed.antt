@@ -17,13 +17,13 @@ use Rattle.grammar.specs.Answer.{refused}
 use Rattle.grammar.specs.Machine.{scan}
 use Rattle.grammar.specs.Rules.{start}
 use Rattle.grammar.specs.Files.{files, checkOf}
-use Rattle.records.specs.July.{recordSize, mostInFile, july}
+use Rattle.records.specs.July.{recordSize, mostInFile, codingOf}
 use Rattle.statements.specs.Progress.{Sized}
 
 -- what a frame says of the file and of its check
 abbrev Says : Form → List ℕ → Frame → Type 0
-Says f b (Records w n) = Sized f w n (length b) × (checkOf july f b ≡ scan (files july f) 0 start (chunks w n b))
-Says f b (Refused k) = checkOf july f b ≡ refused k 0
+Says f b (Records w n) = Sized f w n (length b) × (checkOf (codingOf f) f b ≡ scan (files (codingOf f) f) 0 start (chunks w n b))
+Says f b (Refused k) = checkOf (codingOf f) f b ≡ refused k 0
 
 says : (f : Form) (b : List ℕ) → Says f b (frameOf f recordSize mostInFile b)
 unfolding frameOf frameBy checkOf widthOf

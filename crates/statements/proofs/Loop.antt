@@ -18,7 +18,7 @@ use Rattle.grammar.specs.Rules.{State, start, taken, isOut}
 use Rattle.grammar.specs.Files.{recOf, files}
 use Rattle.grammar.proofs.Quiet.{quiet}
 use Rattle.grammar.proofs.Seam.{piece}
-use Rattle.records.specs.July.{recordSize, mostInFile, july, july2004, decodeRecord}
+use Rattle.records.specs.July.{recordSize, mostInFile, decodeRecord, codingOf, editionOf}
 use Rattle.records.specs.Looks.{lookOf}
 use Rattle.records.specs.declared.Look.{Look}
 use Rattle.statements.specs.declared.Progress.{Progress}
@@ -52,20 +52,20 @@ module _ (f : Form) (w count : ℕ) (b : List ℕ) where
   pub record Going (s : State) (i at : ℕ) : Type 0 where
     pub left : i ≤ count
     pub place : at + (count - i) * w ≡ length b
-    pub rest : scan (files july f) i s (chunks w (count - i) (drop at b)) ≡ scan (files july f) 0 start (chunks w count b)
+    pub rest : scan (files (codingOf f) f) i s (chunks w (count - i) (drop at b)) ≡ scan (files (codingOf f) f) 0 start (chunks w count b)
 
   step : {i : ℕ} (at : ℕ) (s : State) → i < count
-      → scan (files july f) i s (chunks w (count - i) (drop at b))
-      ≡ pick (eqb (judgeOf (files july f) s (take w (drop at b))) 0)
-      (scan (files july f) (i + 1) (taken july2004 s (recOf july (take w (drop at b)))) (chunks w (count - (i + 1)) (drop (at + w) b)))
-      (refused (judgeOf (files july f) s (take w (drop at b))) (i + 1))
+      → scan (files (codingOf f) f) i s (chunks w (count - i) (drop at b))
+      ≡ pick (eqb (judgeOf (files (codingOf f) f) s (take w (drop at b))) 0)
+      (scan (files (codingOf f) f) (i + 1) (taken (editionOf f) s (recOf (codingOf f) (take w (drop at b)))) (chunks w (count - (i + 1)) (drop (at + w) b)))
+      (refused (judgeOf (files (codingOf f) f) s (take w (drop at b))) (i + 1))
   unfolding scan
   step at s h = rw (chunk w b at h)
 
   module _ {s : State} {i at : ℕ} (g : Going s i at) where
     -- no rule applied: the record is taken
-    pub again : {t : State} {k : ℕ} → i < count → k ≡ judgeOf (files july f) s (pieceAt w at b) → k ≡ 0
-        → t ≡ taken july2004 s (recOf july (pieceAt w at b)) → Going t (i + 1) (at + w)
+    pub again : {t : State} {k : ℕ} → i < count → k ≡ judgeOf (files (codingOf f) f) s (pieceAt w at b) → k ≡ 0
+        → t ≡ taken (editionOf f) s (recOf (codingOf f) (pieceAt w at b)) → Going t (i + 1) (at + w)
     again h j z t =
         record {
           left = omega arith;
@@ -73,17 +73,17 @@ module _ (f : Form) (w count : ℕ) (b : List ℕ) where
           rest = rw (t, cut w at b) (sym (step at s h ∙ rw ((rw (cut w at b) at (sym j ∙ z)))) ∙ g .rest);
         }
 
-    pub stops : {k : ℕ} → i < count → k ≡ judgeOf (files july f) s (pieceAt w at b) → (k ≡ 0 → ⊥)
-        → refused k (i + 1) ≡ scan (files july f) 0 start (chunks w count b)
+    pub stops : {k : ℕ} → i < count → k ≡ judgeOf (files (codingOf f) f) s (pieceAt w at b) → (k ≡ 0 → ⊥)
+        → refused k (i + 1) ≡ scan (files (codingOf f) f) 0 start (chunks w count b)
     stops {k} h j z =
-        let e : judgeOf (files july f) s (take w (drop at b)) ≡ k = sym (rw (cut w at b) at j) in
+        let e : judgeOf (files (codingOf f) f) s (take w (drop at b)) ≡ k = sym (rw (cut w at b) at j) in
         sym (step at s h ∙ rw (e, ne-eqb k 0 z)) ∙ g .rest
 
-    pub ends : count ≤ i → pick (isOut (s .mode)) (accepted (s .counts)) (refused 14 i) ≡ scan (files july f) 0 start (chunks w count b)
+    pub ends : count ≤ i → pick (isOut (s .mode)) (accepted (s .counts)) (refused 14 i) ≡ scan (files (codingOf f) f) 0 start (chunks w count b)
     unfolding scan chunks
     ends h =
         let z : count - i ≡ 0 = omega arith in
-        let y : scan (files july f) i s (chunks w (count - i) (drop at b)) ≡ pick (isOut (s .mode)) (accepted (s .counts)) (refused 14 i) = rw z in
+        let y : scan (files (codingOf f) f) i s (chunks w (count - i) (drop at b)) ≡ pick (isOut (s .mode)) (accepted (s .counts)) (refused 14 i) = rw z in
         sym y ∙ g .rest
 
 -- what the calls in the loop ask
@@ -104,17 +104,17 @@ module _ (p : Progress) {f : Form} {w count : ℕ} {file : List ℕ} {i at : ℕ
         totals = enough {j = mostInFile} {to = at} (omega (arith, z .few)) (omega arith) v .totals;
       }
 
-  pub good-at : (k : Look) → k ≡ lookOf (take recordSize (pieceAt w at file)) → judgeOf (files july f) (stateOf file p) (pieceAt w at file) ≡ 0
+  pub good-at : (k : Look) → k ≡ lookOf (take recordSize (pieceAt w at file)) → judgeOf (files (codingOf f) f) (stateOf file p) (pieceAt w at file) ≡ 0
       → Good at file (take recordSize (pieceAt w at file)) p k
   unfolding judgeOf
   good-at k e j =
-      let q = piece july f (stateOf file p .mode) (pieceAt w at file) j in
+      let q = piece (codingOf f) f (stateOf file p .mode) (pieceAt w at file) j in
       record {
         wide = length-take-le recordSize (pieceAt w at file) (omega (arith, piece-length, z .width));
         there = sym (ap (take recordSize) (cut w at file) ∙ take-take recordSize w (drop at file) (omega (arith, z .width)));
         look = e;
         fine = q .fine;
-        place = quiet july2004 (stateOf file p .mode) (decodeRecord (take recordSize (pieceAt w at file))) (q .quiet) .place;
+        place = quiet (editionOf f) (stateOf file p .mode) (decodeRecord (take recordSize (pieceAt w at file))) (q .quiet) .place;
       }
 
 -- the two ends

@@ -8,7 +8,7 @@ use Rattle.framing.specs.declared.Form.{Form}
 use Rattle.grammar.specs.Answer.{Answer, accepted, refused}
 use Rattle.grammar.specs.Statements.{Statement, countsOf}
 use Rattle.grammar.specs.Files.{checkOf, Reads}
-use Rattle.records.specs.July.{july}
+use Rattle.records.specs.July.{codingOf}
 use Rattle.records.proofs.Theorems.{counts}
 use Rattle.statements.specs.Answers.{checkedOf, paperCheck, paperOf, checkedBy, Check}
 use Rattle.statements.specs.declared.Checked.{Checked}
@@ -19,11 +19,11 @@ paper-checked (accepted c) = refl
 paper-checked (refused n r) = refl
 
 -- at the code's returns
-pub checks : {f : Form} {b : List ℕ} {r : Checked} → r ≡ checkedOf (checkOf july f b) → Check f b r
-checks {f} {b} p = record { paper = ap paperCheck p ∙ paper-checked (checkOf july f b); answer = p }
+pub checks : {f : Form} {b : List ℕ} {r : Checked} → r ≡ checkedOf (checkOf (codingOf f) f b) → Check f b r
+checks {f} {b} p = record { paper = ap paperCheck p ∙ paper-checked (checkOf (codingOf f) f b); answer = p }
 
 -- of a file that reads as some statements
-pub check-reads : {f : Form} {b : List ℕ} {r : Checked} {ss : List Statement} → Check f b r → Reads july f b ss
+pub check-reads : {f : Form} {b : List ℕ} {r : Checked} {ss : List Statement} → Check f b r → Reads (codingOf f) f b ss
     → paperCheck r
     ≡ record { number = 0; at = 0; statements = countsOf ss .statements; movements = countsOf ss .movements; complements = countsOf ss .complements }
 check-reads g t = g .paper ∙ ap paperOf (counts t)

@@ -7,7 +7,7 @@ use Rattle.zones.specs.Choice.{pick}
 use Rattle.framing.specs.declared.Form.{Form}
 use Rattle.grammar.specs.Answer.{Answer, accepted, refused}
 use Rattle.grammar.specs.Files.{checkOf}
-use Rattle.records.specs.July.{july}
+use Rattle.records.specs.July.{codingOf}
 use Rattle.statements.specs.declared.Checked.{Checked}
 use Rattle.statements.specs.declared.Checked.the-variants.{Accepted, Refused}
 
@@ -44,5 +44,5 @@ checkedBy p = pick (eqb (p .number) 0) (Accepted (p .statements) (p .movements) 
 
 -- check: the paper's record is that of the definitions' answer, and so is the case
 pub record Check (f : Form) (b : List ℕ) (r : Checked) : Type 0 where
-  pub paper : paperCheck r ≡ paperOf (checkOf july f b)
-  pub answer : r ≡ checkedOf (checkOf july f b)
+  pub paper : paperCheck r ≡ paperOf (checkOf (codingOf f) f b)
+  pub answer : r ≡ checkedOf (checkOf (codingOf f) f b)

@@ -9,7 +9,7 @@ ghost use Rattle.framing.specs.Files.{chunks};
 ghost use Rattle.grammar.specs.Machine.{judgeOf, scan as scanOf};
 ghost use Rattle.grammar.specs.Rules.{start, differs as differsOf};
 ghost use Rattle.grammar.specs.Files.{files};
-ghost use Rattle.records.specs.July.{july, mostInFile, recordSize, decodeRecord};
+ghost use Rattle.records.specs.July.{mostInFile, recordSize, decodeRecord, codingOf};
 ghost use Rattle.records.specs.Looks.{kindOf, lookOf};
 ghost use Rattle.statements.specs.Progress.{Small, openedOf, movedOf, addedOf, closedOf, modeOf, flagsOf, stateOf, afterMovement, nextOf, begin, Inside, Fit, Sized};
 ghost use Rattle.statements.specs.Answers.{checkedOf, Check};
@@ -159,7 +159,7 @@ impl Progress {
     // The lowest number that applies to a record with its line end, or 0.
     fn judge(self, form: Form, file: &[u8], piece: &[u8], k: Look) -> u64
         requires { ⌜ Fit form (length (now file)) (length (now piece)) self × (k ≡ lookOf (take recordSize (now piece))) ⌝ }
-        ensures { λ n. ⌜ n ≡ judgeOf (files july form) (stateOf (now (file .entry)) self) (now (piece .entry)) ⌝ }
+        ensures { λ n. ⌜ n ≡ judgeOf (files (codingOf form) form) (stateOf (now (file .entry)) self) (now (piece .entry)) ⌝ }
     {
         if framing::wrong_end(form, &piece[120..]) {
             return 4;
@@ -259,7 +259,7 @@ impl Progress {
 // The records of a file one after another: count pieces of width bytes.
 fn scan(form: Form, width: usize, count: usize, file: &[u8]) -> Checked
     requires { ⌜ Sized form width count (length (now file)) ⌝ }
-    ensures { λ r. ⌜ r ≡ checkedOf (scanOf (files july form) 0 start (chunks width count (now (file .entry)))) ⌝ }
+    ensures { λ r. ⌜ r ≡ checkedOf (scanOf (files (codingOf form) form) 0 start (chunks width count (now (file .entry)))) ⌝ }
 {
     let mut p = Progress::new();
     let mut i: usize = 0;

@@ -15,7 +15,7 @@ use Rattle.grammar.specs.Statements.{Statement, allRecords}
 use Rattle.grammar.specs.Files.{Reads, statementsOf, checkOf}
 use Rattle.grammar.specs.Parts.{noStatement}
 use Rattle.grammar.proofs.Rows.{addsThen, movesThen}
-use Rattle.records.specs.July.{recordSize, repeats, july, july2004}
+use Rattle.records.specs.July.{recordSize, repeats, codingOf, editionOf}
 use Rattle.fields.specs.Rows.{rowOf, rowAtOf}
 use Rattle.fields.specs.declared.Movement.{Movement}
 use Rattle.readers.specs.declared.Step.{Step}
@@ -40,7 +40,7 @@ pub gathered : (b : List ℕ) (f : Form) (at : ℕ) {s : Step} {o : List ℕ} {x
 unfolding rowStepOf
 gathered b f at e p q = rw (q, p, e)
 
-module _ {f : Form} {b : List ℕ} {ss : List Statement} (r : Reads july f b ss) (j : ℕ) (h : j < length ss) where
+module _ {f : Form} {b : List ℕ} {ss : List Statement} (r : Reads (codingOf f) f b ss) (j : ℕ) (h : j < length ss) where
   abbrev ms : List values.Movement
   ms = getD ss j noStatement .movements
 
@@ -52,11 +52,11 @@ module _ {f : Form} {b : List ℕ} {ss : List Statement} (r : Reads july f b ss)
   at i = getD ms i noMovement
 
   -- its 04 stands there
-  movement-here : (i : ℕ) → i < length ms → (l : List Rec) × (drop (before r j h i) (allRecords july2004 ss) ≡ movement (getD ss j noStatement .key) (at i .posting) ∷ l)
+  movement-here : (i : ℕ) → i < length ms → (l : List Rec) × (drop (before r j h i) (allRecords (editionOf f) ss) ≡ movement (getD ss j noStatement .key) (at i .posting) ∷ l)
   movement-here i l =
       let s = getD ss j noStatement in (
         addsThen (repeats (s .key) (at i .posting)) (at i .complements)
-            (movesThen july2004 (s .key) (drop (suc i) ms) (closing (s .key) (s .new-date) (s .new-balance) ∷ rest r j h i .0)),
+            (movesThen (editionOf f) (s .key) (drop (suc i) ms) (closing (s .key) (s .new-date) (s .new-balance) ∷ rest r j h i .0)),
         rest r j h i .1 ∙ rw (drop-cons ms i noMovement l),
       )
 
@@ -83,7 +83,7 @@ module _ {f : Form} {b : List ℕ} {ss : List Statement} (r : Reads july f b ss)
 -- the part of statement k
 module _ (f : Form) (b : List ℕ) (k : ℕ) {x n : ℕ} (e : At x n ≡ placeOf f b k) where
   abbrev s : Statement
-  s = getD (statementsOf july f b) (k - 1) noStatement
+  s = getD (statementsOf (codingOf f) f b) (k - 1) noStatement
 
   abbrev cut : List ℕ
   cut = between x (x + n) b
@@ -94,7 +94,7 @@ module _ (f : Form) (b : List ℕ) (k : ℕ) {x n : ℕ} (e : At x n ≡ placeOf
       let r = cut-reads f b k e in
       rw (start r) (rows-there r 0 (omega arith) m 0 (omega arith))
 
-  module _ (table : ℕ) {m : ℕ} (q : m ≡ movementsIn (checkOf july f cut)) where
+  module _ (table : ℕ) {m : ℕ} (q : m ≡ movementsIn (checkOf (codingOf f) f cut)) where
     many : m ≡ length (s .movements)
     many = q ∙ count-there (cut-reads f b k e)
 

@@ -9,7 +9,7 @@ use Rattle.grammar.specs.Statements as values
 use Rattle.grammar.specs.Statements.{Statement}
 use Rattle.grammar.specs.Files.{statementsOf}
 use Rattle.grammar.specs.Parts.{noStatement}
-use Rattle.records.specs.July.{july}
+use Rattle.records.specs.July.{codingOf}
 use Rattle.fields.specs.Rows.{rowOf}
 use Rattle.fields.specs.declared.Movement.{Movement}
 use Rattle.readers.specs.Places.{placeOf}
@@ -42,7 +42,7 @@ tableBy (Refused number at) s t = t
 
 -- the answer for statement k and a table of so many rows, and what the table then holds
 unfoldable pub tableAnswerOf : Form → List ℕ → (k table : ℕ) → TableAnswer
-tableAnswerOf f b k n = answerBy (placeOf f b k) (getD (statementsOf july f b) (k - 1) noStatement) n
+tableAnswerOf f b k n = answerBy (placeOf f b k) (getD (statementsOf (codingOf f) f b) (k - 1) noStatement) n
 
 unfoldable pub tableOf : Form → List ℕ → ℕ → List Movement → List Movement
-tableOf f b k t = tableBy (placeOf f b k) (getD (statementsOf july f b) (k - 1) noStatement) t
+tableOf f b k t = tableBy (placeOf f b k) (getD (statementsOf (codingOf f) f b) (k - 1) noStatement) t

@@ -19,8 +19,8 @@ use Rattle.grammar.proofs.Seam.{piecesFor, bodies-pieces}
 use Rattle.grammar.proofs.Canonical.{pieces-canonical}
 use Rattle.grammar.proofs.Exact.{gives-reads, reads-pieces}
 use Rattle.grammar.proofs.Trips.{one-records}
-use Rattle.records.specs.July.{recordSize, Holds, july, july2004, encodeRecord, noDebitZero}
-use Rattle.records.proofs.Lawful.{july-lawful}
+use Rattle.records.specs.July.{recordSize, Holds, july, july2004, encodeRecord, noDebitZero, codingOf}
+use Rattle.records.proofs.Lawful.{lawful}
 use Rattle.records.proofs.Theorems as records
 use Rattle.fields.specs.declared.Movement.{Movement}
 use Rattle.contents.specs.Heads.{headFrom}
@@ -45,7 +45,7 @@ module _ (h : Head) (rows : List Movement) (cs : List ℕ) where
   s = statementFrom h rows cs
 
   -- WHAT IS WRITTEN is what the statement of these values gives, without line ends
-  pub written-given : Carried h rows cs → Gives july plain (writtenOf h rows cs) (s ∷ [])
+  pub written-given : Carried h rows cs → Gives (codingOf plain) plain (writtenOf h rows cs) (s ∷ [])
   unfolding writtenOf layoutOf
   written-given c =
       let w = c .writable in
@@ -58,12 +58,12 @@ module _ (h : Head) (rows : List Movement) (cs : List ℕ) where
       }
 
   -- so it has no debit zero
-  pub written-own : Carried h rows cs → noDebitZero (pieces july plain (writtenOf h rows cs)) ≡ true
+  pub written-own : Carried h rows cs → noDebitZero (pieces (codingOf plain) plain (writtenOf h rows cs)) ≡ true
   written-own c = records.given-own (written-given c)
 
   -- it is accepted and reads as that statement
-  pub written-reads : Carried h rows cs → Reads july plain (writtenOf h rows cs) (s ∷ [])
-  written-reads c = gives-reads july july-lawful (written-given c)
+  pub written-reads : Carried h rows cs → Reads (codingOf plain) plain (writtenOf h rows cs) (s ∷ [])
+  written-reads c = gives-reads (codingOf plain) (lawful plain) (written-given c)
 
   -- and as exactly these values
   pub carried-read : Carried h rows cs → ReadAs h rows cs
@@ -80,18 +80,18 @@ module _ (h : Head) (rows : List Movement) (cs : List ℕ) where
         same-complements = texts-back rows cs (c .whole);
       }
 
-module _ {f : Form} {b : List ℕ} {ss : List Statement} (r : Reads july f b ss) (j : ℕ) (l : j < length ss) where
+module _ {f : Form} {b : List ℕ} {ss : List Statement} (r : Reads (codingOf f) f b ss) (j : ℕ) (l : j < length ss) where
   abbrev t : Statement
   t = getD ss j noStatement
 
   abbrev cs : List ℕ
   cs = flat (textsOf (t .movements))
 
-  alone : Reads july f (partOf july f b (j + 1)) (t ∷ [])
+  alone : Reads (codingOf f) f (partOf (codingOf f) f b (j + 1)) (t ∷ [])
   alone = records.part-reads r j l
 
   writable : Writable july t
-  writable = records.writable t .0 (f, (partOf july f b (j + 1), alone))
+  writable = records.writable t .0 (f, (partOf (codingOf f) f b (j + 1), alone))
 
   held : All Holds (recordsOfMovements july2004 (t .key) (t .movements))
   unfolding recordsOf
@@ -105,18 +105,18 @@ module _ {f : Form} {b : List ℕ} {ss : List Statement} (r : Reads july f b ss)
   read-carried = record { whole = texts-counted (t .key) (t .movements) held; writable = rw statement-back writable }
 
   -- THE ROUND TRIP: head, rows and complements read of statement j, from 0, are written as its records, each as the writer writes it
-  pub read-written : writtenOf (headFrom t) (rowsOf (t .movements)) cs ≡ recordsIn f (canonical july f (partOf july f b (j + 1)))
+  pub read-written : writtenOf (headFrom t) (rowsOf (t .movements)) cs ≡ recordsIn f (canonical (codingOf f) f (partOf (codingOf f) f b (j + 1)))
   unfolding writtenOf recordsIn
   read-written =
       let rs = allRecords july2004 (t ∷ []) in
-      let p : pieces july f (canonical july f (partOf july f b (j + 1))) ≡ piecesFor july f rs =
-      pieces-canonical july july-lawful f (partOf july f b (j + 1)) ∙ reads-pieces july july-lawful alone in
+      let p : pieces (codingOf f) f (canonical (codingOf f) f (partOf (codingOf f) f b (j + 1))) ≡ piecesFor (codingOf f) f rs =
+      pieces-canonical (codingOf f) (lawful f) f (partOf (codingOf f) f b (j + 1)) ∙ reads-pieces (codingOf f) (lawful f) alone in
       ap (λ s. text (recordsOf july2004 s)) statement-back
-      ∙ sym (ap (λ ps. flat (map (take recordSize) ps)) p ∙ ap flat (bodies-pieces july f july-lawful rs (alone .ok) ∙ ap (map encodeRecord) (one-records july2004 t)))
+      ∙ sym (ap (λ ps. flat (map (take recordSize) ps)) p ∙ ap flat (bodies-pieces (codingOf f) f (lawful f) rs (alone .ok) ∙ ap (map encodeRecord) (one-records july2004 t)))
 
   -- without a debit zero they are the same records
-  pub own-written : noDebitZero (pieces july f (partOf july f b (j + 1))) ≡ true → writtenOf (headFrom t) (rowsOf (t .movements)) cs ≡ recordsIn f (partOf july f b (j + 1))
-  own-written h = read-written ∙ ap (recordsIn f) (records.own-file f (partOf july f b (j + 1)) .1 h)
+  pub own-written : noDebitZero (pieces (codingOf f) f (partOf (codingOf f) f b (j + 1))) ≡ true → writtenOf (headFrom t) (rowsOf (t .movements)) cs ≡ recordsIn f (partOf (codingOf f) f b (j + 1))
+  own-written h = read-written ∙ ap (recordsIn f) (records.own-file f (partOf (codingOf f) f b (j + 1)) .1 h)
 
 module _ (h : Head) (rows : List Movement) (cs : List ℕ) where
   -- 19 EXACTLY: no accepted file reads as these values

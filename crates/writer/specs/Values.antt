@@ -10,7 +10,7 @@ use Rattle.grammar.specs.Statements as values
 use Rattle.grammar.specs.Statements.{Statement, recordsOf}
 use Rattle.grammar.specs.Files.{Reads, Writable}
 use Rattle.grammar.specs.Parts.{noStatement}
-use Rattle.records.specs.July.{recordSize, july, july2004, encodeRecord}
+use Rattle.records.specs.July.{recordSize, july, july2004, encodeRecord, codingOf}
 use Rattle.fields.specs.declared.Movement.{Movement}
 use Rattle.contents.specs.Heads.{headFrom}
 use Rattle.contents.specs.declared.Head.{Head}
@@ -53,7 +53,7 @@ pub record ReadAs (h : Head) (rows : List Movement) (cs : List ℕ) : Type 0 whe
   pub form : Form
   pub file : List ℕ
   pub statements : List Statement
-  pub reads : Reads july form file statements
+  pub reads : Reads (codingOf form) form file statements
   pub number : ℕ
   pub inside : number < length statements
   pub same-head : headFrom (getD statements number noStatement) ≡ h
