@@ -44,9 +44,10 @@ use Rattle.journal_layout.proofs.Holding.{before-lines, there-alone}
 use Rattle.journal_layout.proofs.Exact.{journal-length, journal-held, sound-journal}
 use Rattle.journal_layout.proofs.Places.{stood}
 use Rattle.journal_layout.proofs.Listing.{listed as place-listed}
-use Rattle.journal.specs.Delivery.{hold, store, refuse, isHeld, verdictOf, Outcome, refused, proceed, run, linesIn, outcomeOf}
+use Rattle.journal.specs.declared.Verdict.the-variants.{Hold, Store, Refuse}
+use Rattle.journal.specs.Delivery.{refusal, isHeld, verdictOf, Outcome, refused, proceed, run, linesIn, outcomeOf}
 use Rattle.journal.specs.Answers.{answerOf}
-use Rattle.collector.specs.Bounds.{lastRefusal, lastDay, Refusal, Body, Lines, CheckBounds, OpeningBounds, DeliveryBounds, EntryBounds, ListedBounds, UsageBounds, LengthBounds, BeginningBounds}
+use Rattle.collector.specs.Bounds.{lastRefusal, lastDay, RefusalBounds, Body, Lines, CheckBounds, OpeningBounds, DeliveryBounds, EntryBounds, ListedBounds, UsageBounds, LengthBounds, BeginningBounds}
 use Rattle.collector.specs.Answers.{form, openAnswer, listedBy, listedAnswer, lengthAnswer}
 
 -- ---- the check
@@ -171,7 +172,7 @@ run-bounds n hs behind stored held (s ∷ ss) l =
         → behind + 1 ≤ mostInFile
         → DeliveryBounds
         (answerOf
-        (proceed (pick t hold (pick u (pick v (pick w store (refuse 24)) (refuse 23)) (refuse 22))) H S (λ k. refused k (behind + 1))))
+        (proceed (pick t Hold (pick u (pick v (pick w Store (Refuse (refusal 24 (behind + 1)))) (Refuse (refusal 23 (behind + 1)))) (Refuse (refusal 22 (behind + 1))))) H S refused))
     by H S true u v w e h s r = h
     by H S false true true true e h s r = s (ltb-true (length hs) mostEntries e)
     by H S false true true false e h s r = record { some = omega arith; listed = omega arith; near = r }
@@ -190,7 +191,7 @@ delivery-bounds j f b = by (soundIn j) refl (checkOf july f b) refl
   where
     by : (t : Bool) → soundIn j ≡ t → (a : Answer) → checkOf july f b ≡ a → DeliveryBounds (answerOf (outcomeOf j f b))
     by false p a q = rw p (record { some = omega arith; listed = omega arith; near = omega arith })
-    by true p (G.refused n r) q = let z : Refusal n r = rw q at (check-bounds f b) in rw (p, q) z
+    by true p (G.refused n r) q = let z : RefusalBounds n r = rw q at (check-bounds f b) in rw (p, q) z
     by true p (G.accepted c) q =
         let g = sound-journal j p in
         let few = g .kept .few in
@@ -220,11 +221,11 @@ module _ (j : List ℕ) (e : ℕ) where
         few = size-most (there-alone (journal-held g .holding) (e - 1) (s .index));
       }
 
-  not-found : {n r : ℕ} → P.Refused n r ≡ entryPlaceOf j e → Refusal n r
+  not-found : {n r : ℕ} → P.Refused n r ≡ entryPlaceOf j e → RefusalBounds n r
   unfolding entryPlaceOf
   not-found {n} {r} p = by _ _ (soundIn j) (eqb e 0 || ltb (length (heldOf j)) e) p
     where
-      by : (x m : ℕ) (t u : Bool) → P.Refused n r ≡ pick t (pick u (P.Refused 25 0) (P.At x m)) (P.Refused 21 0) → Refusal n r
+      by : (x m : ℕ) (t u : Bool) → P.Refused n r ≡ pick t (pick u (P.Refused 25 0) (P.At x m)) (P.Refused 21 0) → RefusalBounds n r
       by x m false u q = let a : n ≡ 21 = cc in let b : r ≡ 0 = cc in record { some = omega arith; listed = omega arith; near = omega arith }
       by x m true true q = let a : n ≡ 25 = cc in let b : r ≡ 0 = cc in record { some = omega arith; listed = omega arith; near = omega arith }
       by x m true false q = absurd (let z : _≡_ {A = ℕ} 0 1 = cc in omega arith)
@@ -248,11 +249,11 @@ module _ (j : List ℕ) (e : ℕ) where
       let m = is-long (length j) (s .long) .most in
       record { line = entryIn j (e - 1) .first; records = entryIn j (e - 1) .records; begins = f; runs = l; low = omega arith; few = omega arith }
 
-  not-there : {n r : ℕ} → P.Refused n r ≡ listedPlaceOf j e → Refusal n r
+  not-there : {n r : ℕ} → P.Refused n r ≡ listedPlaceOf j e → RefusalBounds n r
   unfolding listedPlaceOf
   not-there {n} {r} p = by _ _ (isLength (length j)) (eqb e 0) (entryIn j (e - 1) .used && leb (lineAt (entryIn j (e - 1) .first) + recordSize * entryIn j (e - 1) .records) (length j)) p
     where
-      by : (x m : ℕ) (t u v : Bool) → P.Refused n r ≡ pick t (pick u (P.Refused 25 0) (pick v (P.At x m) (P.Refused 25 0))) (P.Refused 21 0) → Refusal n r
+      by : (x m : ℕ) (t u v : Bool) → P.Refused n r ≡ pick t (pick u (P.Refused 25 0) (pick v (P.At x m) (P.Refused 25 0))) (P.Refused 21 0) → RefusalBounds n r
       by x m false u v q = let a : n ≡ 21 = cc in let b : r ≡ 0 = cc in record { some = omega arith; listed = omega arith; near = omega arith }
       by x m true true v q = let a : n ≡ 25 = cc in let b : r ≡ 0 = cc in record { some = omega arith; listed = omega arith; near = omega arith }
       by x m true false false q = let a : n ≡ 25 = cc in let b : r ≡ 0 = cc in record { some = omega arith; listed = omega arith; near = omega arith }
@@ -326,4 +327,4 @@ earliest-bounds f b = by (checkOf july f b) refl
 
     by : (a : Answer) → checkOf july f b ≡ a → BeginningBounds (beginningBy a (statementsOf july f b))
     by (G.accepted c) p = early (T.reads f b p)
-    by (G.refused n r) p = let z : Refusal n r = rw p at (check-bounds f b) in z
+    by (G.refused n r) p = let z : RefusalBounds n r = rw p at (check-bounds f b) in z

@@ -37,13 +37,13 @@ use Rattle.journal.specs.declared.Delivery.the-variants as D
 use Rattle.journal.specs.Answers.{paperDelivery, deliveryBy}
 use Rattle.journal.proofs.Paper as J
 use Rattle.collector.specs.Packing.{packedCheck, packedOpening, packedDelivery, packedEntry, packedUsage, packedLength, packedBeginning, paperCheckIn, paperOpeningIn, paperDeliveryIn, paperPlaceIn, paperUsageIn, paperLengthIn, packedDay, paperBeginningIn}
-use Rattle.collector.specs.Bounds.{Refusal, Counted, Told, Body, Lines, Filled, CheckBounds, OpeningBounds, DeliveryBounds, EntryBounds, ListedBounds, UsageBounds, LengthBounds, lastDay, BeginningBounds}
+use Rattle.collector.specs.Bounds.{RefusalBounds, Counted, Told, Body, Lines, Filled, CheckBounds, OpeningBounds, DeliveryBounds, EntryBounds, ListedBounds, UsageBounds, LengthBounds, lastDay, BeginningBounds}
 use Rattle.collector.specs.Answers.{form, checkAnswer, openAnswer, deliverAnswer, listedAnswer, lengthAnswer, earliestAnswer, CheckNumber, OpenNumber, DeliverNumber, EntryNumber, UsedNumber, ListedNumber, LengthNumber, EarliestNumber}
 use Rattle.collector.proofs.Bounds.{check-bounds, opening-bounds, delivery-bounds, entry-bounds, listed-bounds, usage-bounds, length-bounds, earliest-bounds}
 
 -- ---- numbers within their bounds fit
 
-pub refusal-fits : {n r : ℕ} → Refusal n r → Fits 1 r n 0
+pub refusal-fits : {n r : ℕ} → RefusalBounds n r → Fits 1 r n 0
 refusal-fits k =
     let p = k .listed in
     let q = k .near in
@@ -93,10 +93,10 @@ pub day-fits : {d : ℕ} → d ≤ lastDay → Fits 0 (d % bit20) (d / bit20) 0
 day-fits k = record { kind-fits = omega arith; a-fits = omega arith; b-fits = omega arith; c-fits = omega arith }
 
 -- a refusal has a number, so it is packed as one
-pub numbered : {n r : ℕ} → Refusal n r → eqb n 0 ≡ false
+pub numbered : {n r : ℕ} → RefusalBounds n r → eqb n 0 ≡ false
 numbered {n} k = let p = k .some in ne-eqb n 0 (λ z. omega arith)
 
-pub refused-packed : {n r : ℕ} → Refusal n r → refusedOf n r ≡ packed n r 0 0 0
+pub refused-packed : {n r : ℕ} → RefusalBounds n r → refusedOf n r ≡ packed n r 0 0 0
 refused-packed k = refused-fits (refusal-fits k) ∙ rw (numbered k)
 
 -- ---- the bits of a packed answer within its bounds are the paper's answer
@@ -111,7 +111,7 @@ opening-back (O.Refused n r) k = let f = refusal-fits k in rw (numbered k, kind-
 
 pub delivery-back : (r : Delivery) → DeliveryBounds r → paperDeliveryIn (packedDelivery (paperDelivery r)) ≡ paperDelivery r
 delivery-back (D.Done s h) k = let f = told-fits k in rw (kind-back f, a-back f, b-back f)
-delivery-back (D.Refused n r) k = let f = refusal-fits k in rw (numbered k, kind-back f, a-back f, b-back f)
+delivery-back (D.Refused r) k = let f = refusal-fits k in rw (numbered k, kind-back f, a-back f, b-back f)
 
 lines-back : {x n : ℕ} → Lines x n → paperPlaceIn (packedEntry (paperPlace (P.At x n))) ≡ paperPlace (P.At x n)
 lines-back {x} {n} k =
@@ -122,7 +122,7 @@ lines-back {x} {n} k =
     let z : recordSize * (n / recordSize) ≡ n = omega arith in
     rw (kind-back f, a-back f, b-back f) (cc)
 
-refused-place : {n r : ℕ} → Refusal n r → paperPlaceIn (packedEntry (paperPlace (P.Refused n r))) ≡ paperPlace (P.Refused n r)
+refused-place : {n r : ℕ} → RefusalBounds n r → paperPlaceIn (packedEntry (paperPlace (P.Refused n r))) ≡ paperPlace (P.Refused n r)
 refused-place k = let f = refusal-fits k in rw (numbered k, kind-back f, a-back f, b-back f)
 
 pub entry-back : (r : Place) → EntryBounds r → paperPlaceIn (packedEntry (paperPlace r)) ≡ paperPlace r
@@ -188,7 +188,7 @@ opening-numbered (O.Refused n r) k = k .some
 
 pub delivery-numbered : (r : Delivery) → DeliveryBounds r → J.Numbered r
 delivery-numbered (D.Done s h) k = tt
-delivery-numbered (D.Refused n r) k = k .some
+delivery-numbered (D.Refused r) k = k .some
 
 entry-numbered : (r : Place) → EntryBounds r → R.Numbered r
 entry-numbered (P.At x n) k = tt

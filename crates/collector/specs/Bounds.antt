@@ -28,7 +28,7 @@ abbrev pub lastDay : ℕ
 lastDay = 20791231
 
 -- a number of that list, and a record that a file can have, 0 for none
-pub record Refusal (number at : ℕ) : Type 0 where
+pub record RefusalBounds (number at : ℕ) : Type 0 where
   pub some : 1 ≤ number
   pub listed : number ≤ lastRefusal
   pub near : at ≤ mostInFile
@@ -67,32 +67,32 @@ pub record Filled (entries used lines : ℕ) : Type 0 where
 
 abbrev pub CheckBounds : Checked → Type 0
 CheckBounds (C.Accepted s m c) = Counted s m c
-CheckBounds (C.Refused n r) = Refusal n r
+CheckBounds (C.Refused n r) = RefusalBounds n r
 
 abbrev pub OpeningBounds : Opening → Type 0
 OpeningBounds O.Opened = Unit
-OpeningBounds (O.Refused n r) = Refusal n r
+OpeningBounds (O.Refused n r) = RefusalBounds n r
 
 abbrev pub DeliveryBounds : Delivery → Type 0
 DeliveryBounds (D.Done s h) = Told s h
-DeliveryBounds (D.Refused n r) = Refusal n r
+DeliveryBounds (D.Refused r) = RefusalBounds (r .number) (r .«record»)
 
 abbrev pub EntryBounds : Place → Type 0
 EntryBounds (P.At x n) = Body x n
-EntryBounds (P.Refused n r) = Refusal n r
+EntryBounds (P.Refused n r) = RefusalBounds n r
 
 abbrev pub ListedBounds : Place → Type 0
 ListedBounds (P.At x n) = Lines x n
-ListedBounds (P.Refused n r) = Refusal n r
+ListedBounds (P.Refused n r) = RefusalBounds n r
 
 abbrev pub UsageBounds : Usage → Type 0
 UsageBounds (U.Counted e u l) = Filled e u l
-UsageBounds (U.Refused n r) = Refusal n r
+UsageBounds (U.Refused n r) = RefusalBounds n r
 
 abbrev pub LengthBounds : Frame → Type 0
 LengthBounds (F.Records w n) = n ≤ mostInFile
-LengthBounds (F.Refused n) = Refusal n 0
+LengthBounds (F.Refused n) = RefusalBounds n 0
 
 abbrev pub BeginningBounds : Beginning → Type 0
 BeginningBounds (B.On d) = d ≤ lastDay
-BeginningBounds (B.Refused n r) = Refusal n r
+BeginningBounds (B.Refused n r) = RefusalBounds n r

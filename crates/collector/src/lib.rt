@@ -42,7 +42,7 @@ pub extern "C" fn crownhazel_deliver(journal: &mut [u8], line_end: u64, file: &[
 {
     match journal::deliver(journal, Form { line_end }, file) {
         Delivery::Done { stored, held } => packing::answered(stored, held, 0),
-        Delivery::Refused { number, record } => packing::refused(number, record),
+        Delivery::Refused(refusal) => packing::refused(refusal.number, refusal.record),
     }
 }
 

@@ -50,7 +50,7 @@ unfolding judgementOf
 judgement-account s hs w a = rw (held-account s hs w a, last-account (s .key) First hs)
 
 -- the verdict
-pub verdict-account : (n : ℕ) (s : Statement) (hs : List Statement) → Writable july s → All (Writable july) hs
-    → verdictOf n hs s ≡ verdictBy (judgementOf s (ofAccount (s .key) hs)) (s .old-date) (s .old-balance) (length hs) (n - linesOf hs) (sizeOf s)
+pub verdict-account : (n : ℕ) (s : Statement) (hs : List Statement) (at : ℕ) → Writable july s → All (Writable july) hs
+    → verdictOf n hs s at ≡ verdictBy (judgementOf s (ofAccount (s .key) hs)) (s .old-date) (s .old-balance) (length hs) (n - linesOf hs) (sizeOf s) at
 unfolding verdictOf
-verdict-account n s hs w a = rw (judgement-account s hs w a)
+verdict-account n s hs at w a = rw (judgement-account s hs w a)

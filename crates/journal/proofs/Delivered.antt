@@ -20,6 +20,7 @@ use Rattle.entries.specs.Entries.{tableSize}
 use Rattle.journal_layout.specs.Layout.{mostLines, isLength, linesOf, entriesOf, bodiesOf, journalOf, Journal, openedOf}
 use Rattle.journal_layout.proofs.Testing.{is-long}
 use Rattle.journal_layout.proofs.Exact.{journal-length, journal-sound, journal-list}
+use Rattle.journal.specs.declared.Refusal.{Refusal}
 use Rattle.journal.specs.Delivery.{Outcome, delivered, refused, run, linesIn, outcomeBy, outcomeOf, contentBy, contentOf}
 use Rattle.journal.specs.Arrivals.{arrivals}
 use Rattle.journal.proofs.Runs.{Kept, kept, ran, kept-journal, kept-length}
@@ -84,7 +85,7 @@ module _ {j : List ℕ} {H : List Statement} (g : Journal j H) (f : Form) (b : L
       by (G.refused n k) q o = absurd (let z : _≡_ {A = ℕ} 0 1 = cc in omega arith)
 
   -- a refused one
-  pub unchanged : {n k : ℕ} → outcomeOf j f b ≡ refused n k → contentOf j f b ≡ j
+  pub unchanged : {r : Refusal} → outcomeOf j f b ≡ refused r → contentOf j f b ≡ j
   unfolding contentOf
   unchanged e = ap (contentBy j) e
 
@@ -94,7 +95,7 @@ module _ {j : List ℕ} {H : List Statement} (g : Journal j H) (f : Form) (b : L
     where
       by : (o : Outcome) → outcomeOf j f b ≡ o → length (contentOf j f b) ≡ length j
       by (delivered L x y) e = stored e .long
-      by (refused n k) e = ap length (unchanged e)
+      by (refused r) e = ap length (unchanged e)
 
 -- so does opening
 pub opened-long : (j : List ℕ) → isLength (length j) ≡ true → length (openedOf j) ≡ length j

@@ -20,17 +20,14 @@ use Rattle.grammar.specs.Files.{Reads, Writable, statementsOf, checkOf}
 use Rattle.grammar.specs.Parts.{sizeOf, recordsBefore, noStatement}
 use Rattle.records.specs.July.{recordSize, july}
 use Rattle.records.proofs.Theorems.{reads}
-use Rattle.records.specs.Looks.{lookOf}
 use Rattle.statements.specs.declared.Checked.the-variants as C
 use Rattle.statements.specs.Answers.{checkedOf}
 use Rattle.readers.specs.Places.{endAfter}
 use Rattle.readers.proofs.Rows.{before-next}
 use Rattle.readers.proofs.Turns.{last-turn}
-use Rattle.contents.specs.Heads.{recordAtOf}
 use Rattle.bodies.proofs.Single.{reads-writable}
 use Rattle.entries.specs.Entries.{mostEntries, tableSize, lineAt}
 use Rattle.journal_layout.specs.declared.Free.{Free}
-use Rattle.journal_layout.specs.declared.Judgement.{Judgement}
 use Rattle.journal_layout.specs.Chains.{heldAmong}
 use Rattle.journal_layout.specs.Layout.{linesOf, journalOf, Journal}
 use Rattle.journal_layout.specs.Test.{soundIn, heldOf, freeIn}
@@ -39,12 +36,15 @@ use Rattle.journal_layout.proofs.Exact.{one-lines, journal-length, journal-held
 use Rattle.journal_layout.proofs.Freeing.{free-is}
 use Rattle.journal.specs.declared.Plan.{Plan}
 use Rattle.journal.specs.declared.Delivery.the-variants.{Done}
-use Rattle.journal.specs.Delivery.{hold, store, refuse, verdictBy, verdictOf, delivered, refused, proceed, run, linesIn, outcomeBy, outcomeOf, contentBy, contentOf}
+use Rattle.journal.specs.declared.Refusal.{Refusal}
+use Rattle.journal.specs.declared.Verdict.{Verdict}
+use Rattle.journal.specs.declared.Verdict.the-variants.{Hold, Store, Refuse}
+use Rattle.journal.specs.Delivery.{refusal, verdictOf, delivered, refused, proceed, run, linesIn, outcomeBy, outcomeOf, contentBy, contentOf}
 use Rattle.journal.specs.Answers.{answerOf}
 use Rattle.journal.specs.Arrivals.{span, arrivals, spansOf}
-use Rattle.journal.specs.Plans.{partsFrom, spansFrom, Inside, judgedAll, verdictNumber, Reading, writtenAll, Roomy, Accepts, refusedPlan, Planned}
+use Rattle.journal.specs.Plans.{partsFrom, spansFrom, Inside, Reading, writtenAll, Roomy, Deliverable, refusedPlan, Planned, Judgeable, Turned}
 use Rattle.journal.proofs.Runs.{hold-held, store-new}
-use Rattle.journal.proofs.Values.{verdict-value, is-hold, is-store, is-refuse, has-room}
+use Rattle.journal.proofs.Values.{has-room}
 use Rattle.journal.proofs.Written.{layout-all}
 use Rattle.journal.proofs.Turning.{file-small, Turn, turn}
 
@@ -143,7 +143,7 @@ reading-writable f (h ∷ hs) [] r = absurd r
 reading-writable f (h ∷ hs) (s ∷ P) r = (reads-writable (r .0), reading-writable f hs P (r .1))
 
 -- a refusal plans nothing
-pub refused-planned : {j : List ℕ} {f : Form} {b : List ℕ} {v k : ℕ} → outcomeOf j f b ≡ refused v k → Planned j f b (refusedPlan v k)
+pub refused-planned : {j : List ℕ} {f : Form} {b : List ℕ} {r : Refusal} → outcomeOf j f b ≡ refused r → Planned j f b (refusedPlan r)
 unfolding contentOf partsFrom writtenAll
 refused-planned {j} {f} {b} o =
     record {
@@ -162,7 +162,30 @@ refused-planned {j} {f} {b} o =
 
 -- ---- the run
 
-module _ (j : List ℕ) (f : Form) (b : List ℕ) where
+-- i statements are behind, those of P are planned
+pub record Dry (j : List ℕ) (f : Form) (b places ends : List ℕ) (count taken held at : ℕ) : Type 0 where
+  pub i : ℕ
+  pub P : List Statement
+  pub upto : i ≤ length (statementsOf july f b)
+  pub place : at ≡ recordsBefore i (statementsOf july f b) * widthOf recordSize f
+  pub planned : length P ≡ count
+  pub named : (length places ≡ mostEntries) × (length ends ≡ mostEntries)
+  pub few : length (heldOf j) + count ≤ mostEntries
+  pub lines : taken ≡ linesOf (heldOf j ++ P)
+  pub room : taken ≤ linesIn j
+  pub inside : Inside count places ends b
+  pub reads : Reading f (partsFrom count 0 places ends b) P
+  pub roomy : Roomy (length (heldOf j)) (linesOf (heldOf j)) (length j) P
+  pub helds : held ≤ at
+  pub short : length b ≤ 2440000
+  pub rest : run (linesIn j) (heldOf j ++ P) (recordsBefore i (statementsOf july f b)) count held (drop i (statementsOf july f b))
+      ≡ run (linesIn j) (heldOf j) 0 0 0 (statementsOf july f b)
+  pub new : P ++ arrivals (heldOf j ++ P) (drop i (statementsOf july f b)) ≡ arrivals (heldOf j) (statementsOf july f b)
+  pub spans : spansFrom count 0 places ends
+      ++ spansOf (widthOf recordSize f) (heldOf j ++ P) (recordsBefore i (statementsOf july f b)) (drop i (statementsOf july f b))
+      ≡ spansOf (widthOf recordSize f) (heldOf j) 0 (statementsOf july f b)
+
+module _ {j : List ℕ} {f : Form} {b : List ℕ} (given : Deliverable j f b) where
   abbrev H : List Statement
   H = heldOf j
 
@@ -175,252 +198,245 @@ module _ (j : List ℕ) (f : Form) (b : List ℕ) where
   abbrev w : ℕ
   w = widthOf recordSize f
 
-  -- i statements are behind, those of P are planned
-  pub record Dry (places ends : List ℕ) (count taken held at : ℕ) : Type 0 where
-    pub i : ℕ
-    pub P : List Statement
-    pub upto : i ≤ length S
-    pub place : at ≡ recordsBefore i S * widthOf recordSize f
-    pub planned : length P ≡ count
-    pub named : (length places ≡ mostEntries) × (length ends ≡ mostEntries)
-    pub few : length H + count ≤ mostEntries
-    pub lines : taken ≡ linesOf (H ++ P)
-    pub room : taken ≤ n
-    pub inside : Inside count places ends b
-    pub reads : Reading f (partsFrom count 0 places ends b) P
-    pub roomy : Roomy (length H) (linesOf H) (length j) P
-    pub helds : held ≤ at
-    pub rest : run n (H ++ P) (recordsBefore i S) count held (drop i S) ≡ run n H 0 0 0 S
-    pub new : P ++ arrivals (H ++ P) (drop i S) ≡ arrivals H S
-    pub spans : spansFrom count 0 places ends ++ spansOf w (H ++ P) (recordsBefore i S) (drop i S) ≡ spansOf w H 0 S
+  journal : Journal j H
+  journal = sound-journal j (given .sound)
 
-  module _ (sound : soundIn j ≡ true) (yes : Accepts f b) where
-    pub journal : Journal j H
-    journal = sound-journal j sound
+  file : Reads july f b S
+  file = reads f b (given .yes)
 
-    pub file : Reads july f b S
-    file = reads f b (yes .yes)
+  outcome : outcomeOf j f b ≡ run n H 0 0 0 S
+  unfolding outcomeOf
+  outcome = rw (given .sound, given .yes)
 
-    outcome : outcomeOf j f b ≡ run n H 0 0 0 S
-    unfolding outcomeOf
-    outcome = rw (sound, yes .yes)
+  -- what is small
+  pub known-end : lineEnd f ≤ 2
+  known-end = ltb-false 2 (lineEnd f) (file .line)
 
-    -- what is small
-    pub known-end : lineEnd f ≤ 2
-    known-end = ltb-false 2 (lineEnd f) (file .line)
+  pub free-there : {x : Free} → x ≡ freeIn j → (x .entry ≡ length H) × (x .line ≡ linesOf H)
+  free-there e = let q = e ∙ free-is journal in (ap (λ y. y .entry) q, ap (λ y. y .line) q)
 
-    pub file-short : length b ≤ 2440000
-    file-short = file-small file
+  -- the journal's lines
+  pub journal-lines : length j ≡ tableSize + recordSize * n
+  journal-lines = let l = journal-length journal in omega arith
 
-    pub free-there : {x : Free} → x ≡ freeIn j → (x .entry ≡ length H) × (x .line ≡ linesOf H)
-    free-there e = let q = e ∙ free-is journal in (ap (λ y. y .entry) q, ap (λ y. y .line) q)
+  pub begins : Dry j f b (replicate mostEntries 0) (replicate mostEntries 0) 0 (linesOf H) 0 0
+  unfolding recordsBefore partsFrom spansFrom
+  begins =
+      let l = journal-lines in
+      let k = journal .kept in
+      let r = journal-held journal .holding .room in
+      record {
+        i = 0;
+        P = [];
+        upto = omega arith;
+        place = omega arith;
+        planned = refl;
+        named = (refl, refl);
+        few = let x = k .few in omega arith;
+        lines = rw (append-nil H);
+        room = omega arith;
+        inside = record { rises = λ p h. absurd (omega arith); within = λ p h. absurd (omega arith) };
+        reads = tt;
+        roomy = tt;
+        helds = omega arith;
+        short = file-small file;
+        rest = rw (append-nil H);
+        new = rw (append-nil H);
+        spans = rw (append-nil H);
+      }
 
-    -- the journal's lines
-    pub journal-lines : length j ≡ tableSize + recordSize * n
-    journal-lines = let l = journal-length journal in omega arith
+  journal-layout : j ≡ journalOf n H
+  journal-layout =
+      let l = journal-length journal in
+      let z : journal .lines ≡ n = omega arith in
+      journal .layout ∙ ap (λ (m : ℕ). journalOf m H) z
 
-    pub begins : Dry (replicate mostEntries 0) (replicate mostEntries 0) 0 (linesOf H) 0 0
-    unfolding recordsBefore partsFrom spansFrom
-    begins =
-        let l = journal-lines in
-        let k = journal .kept in
-        let r = journal-held journal .holding .room in
+  module _ {places ends : List ℕ} {count taken held at : ℕ} (d : Dry j f b places ends count taken held at) where
+    abbrev P : List Statement
+    P = d .P
+
+    -- the file is at its end
+    pub ends-there : length b ≤ at → Planned j f b
+        (record { count = count; places = places; ends = ends; entry = length H; line = linesOf H; answer = Done count held })
+    unfolding contentOf run arrivals spansOf
+    ends-there l =
+        let e = last-turn file (d .upto) (d .place) l in
+        let q : drop (d .i) S ≡ [] = ap (λ (m : ℕ). drop m S) e ∙ drop-length S in
+        let o : outcomeOf j f b ≡ delivered (H ++ P) count held = outcome ∙ sym (d .rest) ∙ ap (run n (H ++ P) (recordsBefore (d .i) S) count held) q in
+        let m = d .named in
+        let k = d .few in
+        let z : arrivals (H ++ P) (drop (d .i) S) ≡ [] = ap (arrivals (H ++ P)) q in
+        let y : spansOf w (H ++ P) (recordsBefore (d .i) S) (drop (d .i) S) ≡ [] = ap (spansOf w (H ++ P) (recordsBefore (d .i) S)) q in
         record {
-          i = 0;
-          P = [];
-          upto = omega arith;
-          place = omega arith;
-          planned = refl;
-          named = (refl, refl);
-          few = let x = k .few in omega arith;
-          lines = rw (append-nil H);
-          room = omega arith;
-          inside = record { rises = λ p h. absurd (omega arith); within = λ p h. absurd (omega arith) };
-          reads = tt;
-          roomy = tt;
-          helds = omega arith;
-          rest = rw (append-nil H);
-          new = rw (append-nil H);
-          spans = rw (append-nil H);
+          storable =
+              record {
+                list = P;
+                named = (let x = m .0 in omega arith, let x = m .1 in omega arith);
+                inside = d .inside;
+                reads = d .reads;
+                room = d .roomy;
+              };
+          answer = sym (ap answerOf o);
+          content = ap (writtenAll (length H) (linesOf H) P) journal-layout
+              ∙ layout-all n H P (journal .kept .alone) (reading-writable f (partsFrom count 0 places ends b) P (d .reads)) (length j) journal-lines (d .roomy)
+              ∙ sym (ap (contentBy j) o);
+          arrived = λ s h e. record {
+            new = sym (append-nil P) ∙ sym (ap (λ l. P ++ l) z) ∙ d .new;
+            spans = sym (append-nil (spansFrom count 0 places ends)) ∙ sym (ap (λ l. spansFrom count 0 places ends ++ l) y) ∙ d .spans;
+            entry = refl;
+          };
         }
 
-    journal-layout : j ≡ journalOf n H
-    journal-layout =
-        let l = journal-length journal in
-        let z : journal .lines ≡ n = omega arith in
-        journal .layout ∙ ap (λ (m : ℕ). journalOf m H) z
+    -- one statement more
+    module _ {end : ℕ} (more : at < length b) (cursor : end ≡ endAfter f b at) where
+      pub turn-there : Turn f b S (d .i) at end
+      turn-there = turn file (d .upto) (d .place) more cursor
 
-    module _ {places ends : List ℕ} {count taken held at : ℕ} (d : Dry places ends count taken held at) where
-      abbrev P : List Statement
-      P = d .P
-
-      -- the file is at its end
-      pub ends-there : length b ≤ at → Planned j f b
-          (record { count = count; places = places; ends = ends; entry = length H; line = linesOf H; answer = Done count held })
-      unfolding contentOf run arrivals spansOf
-      ends-there l =
-          let e = last-turn file (d .upto) (d .place) l in
-          let q : drop (d .i) S ≡ [] = ap (λ (m : ℕ). drop m S) e ∙ drop-length S in
-          let o : outcomeOf j f b ≡ delivered (H ++ P) count held = outcome ∙ sym (d .rest) ∙ ap (run n (H ++ P) (recordsBefore (d .i) S) count held) q in
+      -- what `turn` asks for
+      pub judgeable : {x : Free} → x ≡ freeIn j → Judgeable j f b places ends (x .entry) count (n - taken) at end
+      judgeable e =
+          let g = turn-there in
           let m = d .named in
           let k = d .few in
-          let z : arrivals (H ++ P) (drop (d .i) S) ≡ [] = ap (arrivals (H ++ P)) q in
-          let y : spansOf w (H ++ P) (recordsBefore (d .i) S) (drop (d .i) S) ≡ [] = ap (spansOf w (H ++ P) (recordsBefore (d .i) S)) q in
+          let h = free-there e .0 in
           record {
-            storable =
-                record {
-                  list = P;
-                  named = (let x = m .0 in omega arith, let x = m .1 in omega arith);
-                  inside = d .inside;
-                  reads = d .reads;
-                  room = d .roomy;
-                };
-            answer = sym (ap answerOf o);
-            content = ap (writtenAll (length H) (linesOf H) P) journal-layout
-                ∙ layout-all n H P (journal .kept .alone) (reading-writable f (partsFrom count 0 places ends b) P (d .reads)) (length j) journal-lines (d .roomy)
-                ∙ sym (ap (contentBy j) o);
-            arrived = λ s h e. record {
-              new = sym (append-nil P) ∙ sym (ap (λ l. P ++ l) z) ∙ d .new;
-              spans = sym (append-nil (spansFrom count 0 places ends)) ∙ sym (ap (λ l. spansFrom count 0 places ends ++ l) y) ∙ d .spans;
-              entry = refl;
-            };
+            statement = getD S (d .i) noStatement;
+            list = P;
+            sound = given .sound;
+            entry = h;
+            few = omega arith;
+            named = (let y = m .0 in omega arith, let y = m .1 in omega arith);
+            inside = d .inside;
+            planned = d .reads;
+            room = ap (λ (l : ℕ). n - l) (d .lines);
+            rises = g .rises;
+            within = g .within;
+            reads = g .reads;
           }
 
-      -- one statement more
-      pub turn-there : {end : ℕ} → at < length b → end ≡ endAfter f b at → Turn f b S (d .i) at end
-      turn-there l e = turn file (d .upto) (d .place) l e
+    -- its verdict
+    module _ {end : ℕ} (more : at < length b) (cursor : end ≡ endAfter f b at) {x : Free} (free : x ≡ freeIn j) {v : Verdict}
+        (t : Turned j f b places ends (x .entry) count (n - taken) at end v) where
+      abbrev g : Turn f b S (d .i) at end
+      g = turn-there more cursor
 
-      -- what the code's verdict is
-      pub verdict-there : {end entry v : ℕ} {g : Judgement} {o : List ℕ} → Turn f b S (d .i) at end → entry ≡ length H
-          → g ≡ judgedAll j entry f (partsFrom count 0 places ends b) (take (end - at) (drop at b)) → o ≡ recordAtOf (take (end - at) (drop at b)) 0
-          → v ≡ verdictNumber (verdictBy g (lookOf o .day) (lookOf o .amount) (entry + count) (n - taken) ((end - at) / widthOf recordSize f))
-          → v ≡ verdictNumber (verdictOf n (H ++ P) (getD S (d .i) noStatement))
-      verdict-there {end} {entry} {v} {g} {o} x e p q y =
+      abbrev i : ℕ
+      i = d .i
+
+      abbrev s : Statement
+      s = getD S i noStatement
+
+      is-verdict : v ≡ verdictOf n (H ++ P) s (recordsBefore i S + 1)
+      unfolding judgeable
+      is-verdict = t .verdict (judgeable more cursor free) ∙ ap (λ (m : ℕ). verdictOf n (H ++ P) s (m + 1)) (g .behind)
+
+      step : proceed v
+          (run n (H ++ P) (recordsBefore i S + sizeOf s) count (held + 1) (drop (suc i) S))
+          (run n ((H ++ P) ++ (s ∷ [])) (recordsBefore i S + sizeOf s) (count + 1) held (drop (suc i) S))
+          refused
+          ≡ run n H 0 0 0 S
+      unfolding run
+      step = rw is-verdict (rw (drop-cons S i noStatement (g .index)) at (d .rest))
+
+      -- what is still to arrive, and where
+      step-new : P ++ pick (heldAmong s (H ++ P)) (arrivals (H ++ P) (drop (suc i) S)) (s ∷ arrivals ((H ++ P) ++ (s ∷ [])) (drop (suc i) S)) ≡ arrivals H S
+      unfolding arrivals
+      step-new = rw (drop-cons S i noStatement (g .index)) at (d .new)
+
+      step-spans : spansFrom count 0 places ends
+          ++ pick (heldAmong s (H ++ P)) (spansOf w (H ++ P) (recordsBefore i S + sizeOf s) (drop (suc i) S))
+          (span (recordsBefore i S * w) (sizeOf s * w) ∷ spansOf w ((H ++ P) ++ (s ∷ [])) (recordsBefore i S + sizeOf s) (drop (suc i) S))
+          ≡ spansOf w H 0 S
+      unfolding spansOf
+      step-spans = rw (drop-cons S i noStatement (g .index)) at (d .spans)
+
+      -- refused: nothing is stored
+      pub refused-there : {r : Refusal} → v ≡ Refuse r → Planned j f b (refusedPlan r)
+      refused-there h = refused-planned (outcome ∙ sym (rw h at step))
+
+      -- held: one more is held
+      pub held-there : v ≡ Hold → Dry j f b places ends count taken (held + 1) end
+      held-there h =
+          let y = sym is-verdict ∙ h in
+          let x = g .index in
+          record {
+            i = i + 1;
+            P = P;
+            upto = omega arith;
+            place = g .next;
+            planned = d .planned;
+            named = d .named;
+            few = d .few;
+            lines = d .lines;
+            room = d .room;
+            inside = d .inside;
+            reads = d .reads;
+            roomy = d .roomy;
+            helds = let z = d .helds in let r = g .rises in omega arith;
+            short = d .short;
+            rest = rw (before-next i S x, add-one i) (rw h at step);
+            new = rw (add-one i) (rw (hold-held n (H ++ P) s (recordsBefore i S + 1) y) at step-new);
+            spans = rw (before-next i S x, add-one i) (rw (hold-held n (H ++ P) s (recordsBefore i S + 1) y) at step-spans);
+          }
+
+      -- stored: it is planned behind the others
+      pub stored-there : v ≡ Store → Dry j f b (set places count at) (set ends count end) (count + 1) (taken + (end - at) / widthOf recordSize f) held end
+      stored-there h =
+          let y = sym is-verdict ∙ h in
+          let o = has-room n (H ++ P) s (recordsBefore i S + 1) y in
+          let t : heldAmong s (H ++ P) ≡ false = store-new n (H ++ P) s (recordsBefore i S + 1) y in
+          let w′ = widthOf recordSize f in
+          let R = spansOf w′ ((H ++ P) ++ (s ∷ [])) (recordsBefore i S + sizeOf s) (drop (suc i) S) in
+          let x = g .index in
           let c = d .planned in
-          let l = length-append H P in
-          y
-          ∙ ap verdictNumber
-          (verdict-value (x .reads) (partsFrom count 0 places ends b) P n (entry + count) (n - taken) ((end - at) / widthOf recordSize f)
-          (journal-held journal .holding) (d .reads) (rw e at p) q (omega arith) (ap (λ (m : ℕ). n - m) (d .lines)) (x .size))
-
-      -- its verdict
-      module _ {end : ℕ} (g : Turn f b S (d .i) at end) {v : ℕ} (p : v ≡ verdictNumber (verdictOf n (H ++ P) (getD S (d .i) noStatement))) where
-        abbrev i : ℕ
-        i = d .i
-
-        abbrev s : Statement
-        s = getD S i noStatement
-
-        step : proceed (verdictOf n (H ++ P) s)
-            (run n (H ++ P) (recordsBefore i S + sizeOf s) count (held + 1) (drop (suc i) S))
-            (run n ((H ++ P) ++ (s ∷ [])) (recordsBefore i S + sizeOf s) (count + 1) held (drop (suc i) S))
-            (λ k. refused k (recordsBefore i S + 1))
-            ≡ run n H 0 0 0 S
-        unfolding run
-        step = rw (drop-cons S i noStatement (g .index)) at (d .rest)
-
-        -- what is still to arrive, and where
-        step-new : P ++ pick (heldAmong s (H ++ P)) (arrivals (H ++ P) (drop (suc i) S)) (s ∷ arrivals ((H ++ P) ++ (s ∷ [])) (drop (suc i) S)) ≡ arrivals H S
-        unfolding arrivals
-        step-new = rw (drop-cons S i noStatement (g .index)) at (d .new)
-
-        step-spans : spansFrom count 0 places ends
-            ++ pick (heldAmong s (H ++ P)) (spansOf w (H ++ P) (recordsBefore i S + sizeOf s) (drop (suc i) S))
-            (span (recordsBefore i S * w) (sizeOf s * w) ∷ spansOf w ((H ++ P) ++ (s ∷ [])) (recordsBefore i S + sizeOf s) (drop (suc i) S))
-            ≡ spansOf w H 0 S
-        unfolding spansOf
-        step-spans = rw (drop-cons S i noStatement (g .index)) at (d .spans)
-
-        -- refused: nothing is stored
-        pub refused-there : 1 < v → Planned j f b (refusedPlan v (at / widthOf recordSize f + 1))
-        refused-there h =
-            let y : verdictOf n (H ++ P) s ≡ refuse v = rw p (is-refuse n (H ++ P) s (rw p at h)) in
-            refused-planned (outcome ∙ sym (rw y at step) ∙ ap (λ (m : ℕ). refused v (m + 1)) (sym (g .behind)))
-
-        -- held: one more is held
-        pub held-there : v ≡ 0 → Dry places ends count taken (held + 1) end
-        held-there h =
-            let y : verdictOf n (H ++ P) s ≡ hold = is-hold n (H ++ P) s (sym p ∙ h) in
-            let x = g .index in
-            record {
-              i = i + 1;
-              P = P;
-              upto = omega arith;
-              place = g .next;
-              planned = d .planned;
-              named = d .named;
-              few = d .few;
-              lines = d .lines;
-              room = d .room;
-              inside = d .inside;
-              reads = d .reads;
-              roomy = d .roomy;
-              helds = let z = d .helds in let r = g .rises in omega arith;
-              rest = rw (before-next i S x, add-one i) (rw y at step);
-              new = rw (add-one i) (rw (hold-held n (H ++ P) s y) at step-new);
-              spans = rw (before-next i S x, add-one i) (rw (hold-held n (H ++ P) s y) at step-spans);
-            }
-
-        -- stored: it is planned behind the others
-        pub stored-there : v ≡ 1 → Dry (set places count at) (set ends count end) (count + 1) (taken + (end - at) / widthOf recordSize f) held end
-        stored-there h =
-            let y : verdictOf n (H ++ P) s ≡ store = is-store n (H ++ P) s (sym p ∙ h) in
-            let o = has-room n (H ++ P) s y in
-            let t : heldAmong s (H ++ P) ≡ false = store-new n (H ++ P) s y in
-            let w′ = widthOf recordSize f in
-            let R = spansOf w′ ((H ++ P) ++ (s ∷ [])) (recordsBefore i S + sizeOf s) (drop (suc i) S) in
-            let x = g .index in
-            let c = d .planned in
-            let m = d .named in
-            let m0 = m .0 in
-            let m1 = m .1 in
-            let q = length-append H P in
-            let u : length (H ++ P) < mostEntries = o .0 in
-            let l : sizeOf s ≤ n - linesOf (H ++ P) = o .1 in
-            let k : taken ≡ linesOf (H ++ P) = d .lines in
-            let w = lines-append H P in
-            let z : (end - at) / widthOf recordSize f ≡ sizeOf s = g .size in
-            record {
-              i = i + 1;
-              P = P ++ (s ∷ []);
-              upto = omega arith;
-              place = g .next;
-              planned = length-append P (s ∷ []) ∙ ap (λ (v : ℕ). v + 1) c;
-              named = (length-set places count at ∙ m0, length-set ends count end ∙ m1);
-              few = omega arith;
-              lines = ap₂ _+_ k z ∙ sym (lines-append (H ++ P) (s ∷ []) ∙ one-lines s (linesOf (H ++ P))) ∙ ap linesOf (append-assoc H P (s ∷ []));
-              room = let r = d .room in omega arith;
-              inside = inside-snoc (d .inside) (omega arith) (omega arith) (let r = g .rises in omega arith) (g .within);
-              reads = parts-read f count places ends b at end P s (d .reads) (omega arith) (omega arith) (g .reads);
-              roomy = roomy-snoc (length H) (linesOf H) (length j) P s (d .roomy) (omega arith) (let v = journal-lines in omega arith);
-              helds = let v = d .helds in let r = g .rises in omega arith;
-              rest = rw (before-next i S x, add-one i, ← append-assoc H P (s ∷ [])) (rw y at step);
-              new = rw (add-one i, ← append-assoc H P (s ∷ []), append-assoc P (s ∷ []) (arrivals ((H ++ P) ++ (s ∷ [])) (drop (suc i) S))) (rw t at step-new);
-              spans = rw (before-next i S x, add-one i, ← append-assoc H P (s ∷ []), spans-set count places ends at end (omega arith) (omega arith), g .len, append-assoc (spansFrom count 0 places ends) (span at (sizeOf s * w′) ∷ []) R)
-                  (ap (λ (m : ℕ). spansFrom count 0 places ends ++ (span m (sizeOf s * w′) ∷ R)) (d .place) ∙ rw t at step-spans);
-            }
+          let m = d .named in
+          let m0 = m .0 in
+          let m1 = m .1 in
+          let q = length-append H P in
+          let u : length (H ++ P) < mostEntries = o .0 in
+          let l : sizeOf s ≤ n - linesOf (H ++ P) = o .1 in
+          let k : taken ≡ linesOf (H ++ P) = d .lines in
+          let w = lines-append H P in
+          let z : (end - at) / widthOf recordSize f ≡ sizeOf s = g .size in
+          record {
+            i = i + 1;
+            P = P ++ (s ∷ []);
+            upto = omega arith;
+            place = g .next;
+            planned = length-append P (s ∷ []) ∙ ap (λ (v : ℕ). v + 1) c;
+            named = (length-set places count at ∙ m0, length-set ends count end ∙ m1);
+            few = omega arith;
+            lines = ap₂ _+_ k z ∙ sym (lines-append (H ++ P) (s ∷ []) ∙ one-lines s (linesOf (H ++ P))) ∙ ap linesOf (append-assoc H P (s ∷ []));
+            room = let r = d .room in omega arith;
+            inside = inside-snoc (d .inside) (omega arith) (omega arith) (let r = g .rises in omega arith) (g .within);
+            reads = parts-read f count places ends b at end P s (d .reads) (omega arith) (omega arith) (g .reads);
+            roomy = roomy-snoc (length H) (linesOf H) (length j) P s (d .roomy) (omega arith) (let v = journal-lines in omega arith);
+            helds = let v = d .helds in let r = g .rises in omega arith;
+            short = d .short;
+            rest = rw (before-next i S x, add-one i, ← append-assoc H P (s ∷ [])) (rw h at step);
+            new = rw (add-one i, ← append-assoc H P (s ∷ []), append-assoc P (s ∷ []) (arrivals ((H ++ P) ++ (s ∷ [])) (drop (suc i) S))) (rw t at step-new);
+            spans = rw (before-next i S x, add-one i, ← append-assoc H P (s ∷ []), spans-set count places ends at end (omega arith) (omega arith), g .len, append-assoc (spansFrom count 0 places ends) (span at (sizeOf s * w′) ∷ []) R)
+                (ap (λ (m : ℕ). spansFrom count 0 places ends ++ (span m (sizeOf s * w′) ∷ R)) (d .place) ∙ rw t at step-spans);
+          }
 
 -- ---- the whole plan, at its returns
 
 module _ (j : List ℕ) (f : Form) (b : List ℕ) {t : Bool} (p : t ≡ soundIn j) where
-  pub not-sound : {r : Plan} → not t ≡ true → r ≡ refusedPlan 21 0 → Planned j f b r
+  pub not-sound : {q : Refusal} {r : Plan} → not t ≡ true → q ≡ refusal 21 0 → r ≡ refusedPlan q → Planned j f b r
   unfolding outcomeOf
-  not-sound h e = rw e (refused-planned (rw (← p, not-true t h)))
+  not-sound h q e = rw (e, q) (refused-planned (rw (← p, not-true t h)))
 
-  pub not-read : {n k : ℕ} {r : Plan} → not t ≡ false → C.Refused n k ≡ checkedOf (checkOf july f b) → r ≡ refusedPlan n k → Planned j f b r
+  pub not-read : {n k : ℕ} {q : Refusal} {r : Plan} → not t ≡ false → C.Refused n k ≡ checkedOf (checkOf july f b) → q ≡ refusal n k → r ≡ refusedPlan q → Planned j f b r
   unfolding outcomeOf
-  not-read {n} {k} h c e = rw e (refused-planned (rw (← p, not-false t h) (by (checkOf july f b) c)))
+  not-read {n} {k} h c q e = rw (e, q) (refused-planned (rw (← p, not-false t h) (by (checkOf july f b) c)))
     where
-      by : (a : Answer) → C.Refused n k ≡ checkedOf a → outcomeBy a (run (linesIn j) (heldOf j) 0 0 0 (statementsOf july f b)) ≡ refused n k
+      by : (a : Answer) → C.Refused n k ≡ checkedOf a → outcomeBy a (run (linesIn j) (heldOf j) 0 0 0 (statementsOf july f b)) ≡ refused (refusal n k)
       by (accepted x) q = absurd (let z : _≡_ {A = ℕ} 0 1 = cc in omega arith)
       by (G.refused x y) q = let z : x ≡ n = cc in let w : y ≡ k = cc in rw (z, w)
 
-  pub is-sound : not t ≡ false → soundIn j ≡ true
-  is-sound h = sym p ∙ not-false t h
-
-pub accepts : (f : Form) (b : List ℕ) {s m c : ℕ} → C.Accepted s m c ≡ checkedOf (checkOf july f b) → Accepts f b
-accepts f b {s} {m} {c} e = by (checkOf july f b) refl e
-  where
-    by : (a : Answer) → checkOf july f b ≡ a → C.Accepted s m c ≡ checkedOf a → Accepts f b
-    by (accepted x) q g = record { counts = x; yes = q }
-    by (G.refused x y) q g = absurd (let z : _≡_ {A = ℕ} 0 1 = cc in omega arith)
+  pub deliverable : {s m c : ℕ} → not t ≡ false → C.Accepted s m c ≡ checkedOf (checkOf july f b) → Deliverable j f b
+  deliverable {s} {m} {c} h e = by (checkOf july f b) refl e
+    where
+      by : (a : Answer) → checkOf july f b ≡ a → C.Accepted s m c ≡ checkedOf a → Deliverable j f b
+      by (accepted x) q g = record { sound = sym p ∙ not-false t h; counts = x; yes = q }
+      by (G.refused x y) q g = absurd (let z : _≡_ {A = ℕ} 0 1 = cc in omega arith)

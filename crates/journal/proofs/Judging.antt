@@ -1,5 +1,5 @@
 -- What the planned statements say of another one, and what becomes of it: one law for each return.
-use mathlib.Core.Path.{_≡_, sym, _∙_}
+use mathlib.Core.Path.{_≡_, sym, ap, _∙_}
 use mathlib.Core.Bool.{Bool, true, false, not, _||_}
 use mathlib.Core.List.{List}
 use Prim.Native.Nat.{ℕ, suc, _+_, _-_, _<_, _≤_}
@@ -20,8 +20,11 @@ use Rattle.journal_layout.specs.declared.Judgement.{Judgement}
 use Rattle.journal_layout.specs.declared.Judgement.the-variants.{Held}
 use Rattle.journal_layout.specs.Chains.{followsBy}
 use Rattle.journal_layout.specs.Test.{laterOf, judgedBy}
-use Rattle.journal.specs.Delivery.{isHeld, verdictBy}
-use Rattle.journal.specs.Plans.{partsFrom, heldIn, lastIn, judgedIn, judgedAll, verdictNumber}
+use Rattle.journal.specs.declared.Refusal.{Refusal}
+use Rattle.journal.specs.declared.Verdict.{Verdict}
+use Rattle.journal.specs.declared.Verdict.the-variants.{Hold, Store, Refuse}
+use Rattle.journal.specs.Delivery.{refusal, isHeld, verdictBy}
+use Rattle.journal.specs.Plans.{partsFrom, heldIn, lastIn, judgedIn, judgedAll}
 
 module _ (last : Judgement) (f : Form) (b places ends : List ℕ) (count : ℕ) (s : List ℕ) where
   abbrev whole : Judgement
@@ -64,28 +67,28 @@ module _ (last : Judgement) (f : Form) (b places ends : List ℕ) (count : ℕ) 
       goes-on y w = record { inside = omega arith; rest = rw w (rw y at step) }
 
 -- the verdict
-module _ (j : Judgement) (o : List ℕ) (entries left size : ℕ) where
-  abbrev number : ℕ
-  number = verdictNumber (verdictBy j (lookOf o .day) (lookOf o .amount) entries left size)
+module _ (j : Judgement) (o : List ℕ) (entries left size at : ℕ) where
+  abbrev answer : Verdict
+  answer = verdictBy j (lookOf o .day) (lookOf o .amount) entries left size at
 
-  pub is-held : {t : Bool} → t ≡ isHeld j → t ≡ true → 0 ≡ number
+  pub is-held : {t : Bool} → t ≡ isHeld j → t ≡ true → Hold ≡ answer
   is-held p h = sym (rw (← p, h))
 
   module _ {t : Bool} (p : t ≡ isHeld j) (h : t ≡ false) {k : Look} (l : k ≡ lookOf o) {u : Bool} (q : u ≡ followsBy j (k .day) (toZ w64 (ofZ w64 (k .amount)))) where
     value : u ≡ followsBy j (lookOf o .day) (lookOf o .amount)
     value = let x = look-small o l in q ∙ rw (back (k .amount) (omega arith), l)
 
-    pub follows-not : not u ≡ true → 22 ≡ number
-    follows-not n = sym (rw (← p, h, ← value, not-true u n))
+    pub follows-not : {r : Refusal} → not u ≡ true → r ≡ refusal 22 at → Refuse r ≡ answer
+    follows-not n e = ap Refuse e ∙ sym (rw (← p, h, ← value, not-true u n))
 
     module _ (n : not u ≡ false) where
-      pub no-entry : mostEntries ≤ entries → 23 ≡ number
-      no-entry m = sym (rw (← p, h, ← value, not-false u n, le-ltb entries mostEntries m))
+      pub no-entry : {r : Refusal} → mostEntries ≤ entries → r ≡ refusal 23 at → Refuse r ≡ answer
+      no-entry m e = ap Refuse e ∙ sym (rw (← p, h, ← value, not-false u n, le-ltb entries mostEntries m))
 
-      pub no-lines : entries < mostEntries → left < size → 24 ≡ number
-      no-lines m d = sym (rw (← p, h, ← value, not-false u n, lt-ltb entries mostEntries m, lt-leb size left d))
+      pub no-lines : {r : Refusal} → entries < mostEntries → left < size → r ≡ refusal 24 at → Refuse r ≡ answer
+      no-lines m d e = ap Refuse e ∙ sym (rw (← p, h, ← value, not-false u n, lt-ltb entries mostEntries m, lt-leb size left d))
 
-      pub stored : entries < mostEntries → size ≤ left → 1 ≡ number
+      pub stored : entries < mostEntries → size ≤ left → Store ≡ answer
       stored m d = sym (rw (← p, h, ← value, not-false u n, lt-ltb entries mostEntries m, le-leb size left d))
 
 -- `judged_all` at its returns

@@ -37,8 +37,10 @@ use Rattle.journal.specs.Plans.{partsFrom, spansFrom, Reading, Searchabl
 use Rattle.journal.specs.declared.Plan.{Plan}
 use Rattle.journal.specs.declared.Delivery.the-variants as D
 use Rattle.journal.specs.declared.Delivery.the-variants.{Done}
-use Rattle.journal.specs.Delivery.{Outcome, delivered, refused, run, linesIn, outcomeBy, outcomeOf}
+use Rattle.journal.specs.Delivery.{refusal, Outcome, delivered, refused, run, linesIn, outcomeBy, outcomeOf}
 use Rattle.journal.specs.Answers.{answerOf}
+use Rattle.journal.specs.declared.Refusal.{Refusal}
+use Rattle.journal.proofs.Values.{reading-length, length-parts}
 
 -- ---- one record's account
 
@@ -154,17 +156,6 @@ index-most k i last (s ∷ ss) h = let p = index-most k (i + 1) (pick (sameKey (
 
 -- ---- at the returns
 
-reading-length : (f : Form) (hs : List (List ℕ)) (P : List Statement) → Reading f hs P → length P ≡ length hs
-reading-length f [] [] r = refl
-reading-length f [] (s ∷ P) r = absurd r
-reading-length f (h ∷ hs) [] r = absurd r
-reading-length f (h ∷ hs) (s ∷ P) r = ap suc (reading-length f hs P (r .1))
-
-length-parts : (n p : ℕ) (places ends b : List ℕ) → length (partsFrom n p places ends b) ≡ n
-unfolding partsFrom
-length-parts zero p places ends b = refl
-length-parts (suc n) p places ends b = ap suc (length-parts n (p + 1) places ends b)
-
 span-at : (n p i : ℕ) (places ends : List ℕ) → i < n → getD (spansFrom n p places ends) i (span 0 0) ≡ span (getD places (p + i) 0) (getD ends (p + i) 0 - getD places (p + i) 0)
 unfolding spansFrom
 span-at zero p i places ends h = absurd (omega arith)
@@ -249,7 +240,7 @@ module _ {j : List ℕ} {f : Form} {b : List ℕ} {plan : Plan} (g : Planned j f
   unfolding outcomeOf
   is-sound {s} {h} q = by (soundIn j) q
     where
-      by : (t : Bool) → answerOf (pick t (outcomeBy (checkOf july f b) (run (linesIn j) (heldOf j) 0 0 0 (statementsOf july f b))) (refused 21 0)) ≡ Done s h → t ≡ true
+      by : (t : Bool) → answerOf (pick t (outcomeBy (checkOf july f b) (run (linesIn j) (heldOf j) 0 0 0 (statementsOf july f b))) (refused (refusal 21 0))) ≡ Done s h → t ≡ true
       by true q = refl
       by false q = absurd (let z : _≡_ {A = ℕ} 0 1 = cc in omega arith)
 
@@ -276,15 +267,15 @@ module _ {j : List ℕ} {f : Form} {b : List ℕ} {plan : Plan} (g : Planned j f
     where
       by : (o : Outcome) → answerOf o ≡ Done s h → {y : Found} → y ≡ newestBy o y
       by (delivered L a c) q = refl
-      by (refused n k) q = absurd (let z : _≡_ {A = ℕ} 0 1 = cc in omega arith)
+      by (refused r) q = absurd (let z : _≡_ {A = ℕ} 0 1 = cc in omega arith)
 
-  pub found-refused : {n k : ℕ} → plan .answer ≡ D.Refused n k → Finds (newestOf j f b x) j b (Refused n k)
+  pub found-refused : {r : Refusal} → plan .answer ≡ D.Refused r → Finds (newestOf j f b x) j b (Refused (r .number) (r .«record»))
   unfolding newestOf
-  found-refused {n} {k} e = record { same = by (outcomeOf j f b) (sym (g .answer) ∙ e) _; lies = tt }
+  found-refused {r} e = record { same = by (outcomeOf j f b) (sym (g .answer) ∙ e) _; lies = tt }
     where
-      by : (o : Outcome) → answerOf o ≡ D.Refused n k → (y : Found) → Refused n k ≡ newestBy o y
+      by : (o : Outcome) → answerOf o ≡ D.Refused r → (y : Found) → Refused (r .number) (r .«record») ≡ newestBy o y
       by (delivered L a c) q y = absurd (let z : _≡_ {A = ℕ} 0 1 = cc in omega arith)
-      by (refused m l) q y = let v : m ≡ n = cc in let w : l ≡ k = cc in rw (v, w)
+      by (refused p) q y = let v : p ≡ r = cc in rw v
 
 -- the part that a place names
 module _ {j : List ℕ} (f : Form) {b : List ℕ} (x : List ℕ) {r : Found} (g : Finds (newestOf j f b x) j b r) where

@@ -19,6 +19,7 @@ use Rattle.journal_layout.proofs.Exact.{journal-sound, journal-list}
 use Rattle.journal_layout.proofs.Paper.{not-sound}
 use Rattle.journal.specs.declared.Delivery.{Delivery}
 use Rattle.journal.specs.declared.Delivery.the-variants.{Done, Refused}
+use Rattle.journal.specs.declared.Refusal.{Refusal}
 use Rattle.journal.specs.declared.Found.{Found}
 use Rattle.journal.specs.declared.Found.the-variants as N
 use Rattle.journal.specs.declared.Holding.{Holding}
@@ -33,7 +34,7 @@ use Rattle.journal.specs.Answers.{PaperNewest, PaperHolding, paperDelive
 
 paper-answer : (o : Outcome) → paperDelivery (answerOf o) ≡ paperOutcome o
 paper-answer (delivered ss s h) = refl
-paper-answer (refused n r) = refl
+paper-answer (refused r) = refl
 
 -- at the code's return
 pub delivers : {j : List ℕ} {f : Form} {b : List ℕ} {r : Delivery} {j′ : List ℕ} → r ≡ answerOf (outcomeOf j f b) → j′ ≡ contentOf j f b → Delivers j f b r j′
@@ -42,8 +43,8 @@ delivers {j} {f} {b} p c = record { paper = ap paperDelivery p ∙ paper-answer 
 -- ---- the newest statement: delivery's refusals, then 25
 
 module _ {j : List ℕ} {f : Form} {b x : List ℕ} {r : Found} (a : NewestPlace j f b x r) where
-  pub newest-refused : {n i : ℕ} → outcomeOf j f b ≡ refused n i
-      → paperNewest r ≡ record { number = n; at = i; source = 0; first = 0; len = 0; line-end = 0 }
+  pub newest-refused : {q : Refusal} → outcomeOf j f b ≡ refused q
+      → paperNewest r ≡ record { number = q .number; at = q .«record»; source = 0; first = 0; len = 0; line-end = 0 }
   unfolding newestOf
   newest-refused o = ap paperNewest (a .answer) ∙ rw o
 
@@ -111,11 +112,11 @@ module _ {j : List ℕ} {r : Holding} (a : Holds j r) where
 
 abbrev pub Numbered : Delivery → Type 0
 Numbered (Done s h) = Unit
-Numbered (Refused n r) = 1 ≤ n
+Numbered (Refused r) = 1 ≤ r .number
 
 pub delivery-by : (r : Delivery) → Numbered r → deliveryBy (paperDelivery r) ≡ r
 delivery-by (Done s h) k = refl
-delivery-by (Refused n r) k = rw (ne-eqb n 0 (λ z. omega arith))
+delivery-by (Refused r) k = rw (ne-eqb (r .number) 0 (λ z. omega arith))
 
 pub delivery-apart : {r q : Delivery} → Numbered r → Numbered q → paperDelivery r ≡ paperDelivery q → r ≡ q
 delivery-apart {r} {q} k l p = sym (delivery-by r k) ∙ ap deliveryBy p ∙ delivery-by q l

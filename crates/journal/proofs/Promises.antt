@@ -13,6 +13,7 @@ use Rattle.bodies.specs.Bodies.{bodyOf}
 use Rattle.journal_layout.specs.Test.{soundIn, heldOf, entryPlaceOf, entryBodyOf}
 use Rattle.journal_layout.proofs.Exact.{journal-sound, journal-list, sound-journal}
 use Rattle.journal.specs.declared.Delivery.the-variants.{Refused}
+use Rattle.journal.specs.declared.Refusal.{Refusal}
 use Rattle.journal.specs.Delivery.{Outcome, delivered, refused, outcomeOf}
 use Rattle.journal.specs.Answers.{answerOf}
 use Rattle.journal.specs.Promises.{Promise, Adds}
@@ -58,9 +59,9 @@ module _ (j : List ℕ) (h : soundIn j ≡ true) where
         stored = λ s n e. let x = stored g f b (answered (outcomeOf j f b) e .1) in (journal-list (x .journal) ∙ x .list, journal-sound (x .journal));
         counted = λ s n e. let x = stored g f b (answered (outcomeOf j f b) e .1) in (x .stores, x .all);
         read = λ s n e. stored g f b (answered (outcomeOf j f b) e .1) .read;
-        unchanged = λ n r e. unchanged g f b (turned-away (outcomeOf j f b) e);
+        unchanged = λ r e. unchanged g f b (turned-away (outcomeOf j f b) e);
       }
     where
-      turned-away : (o : Outcome) {n r : ℕ} → answerOf o ≡ Refused n r → o ≡ refused n r
+      turned-away : (o : Outcome) {r : Refusal} → answerOf o ≡ Refused r → o ≡ refused r
       turned-away (delivered L s t) e = absurd (let z : _≡_ {A = ℕ} 0 1 = cc in omega arith)
-      turned-away (refused m k) {n} {r} e = let v : m ≡ n = cc in let w : k ≡ r = cc in rw (v, w)
+      turned-away (refused q) {r} e = let v : q ≡ r = cc in rw v

@@ -20,53 +20,55 @@ use Rattle.journal_layout.specs.Layout.{mostLines, linesOf, journalOf, Keepable
 use Rattle.journal_layout.proofs.Chain.{Row, row-snoc, row-distinct, row-chained, row-of}
 use Rattle.journal_layout.proofs.Adding.{lines-append, all-append}
 use Rattle.journal_layout.proofs.Exact.{one-lines, journal-length}
-use Rattle.journal.specs.Delivery.{Verdict, hold, store, refuse, verdictBy, verdictOf, delivered, refused, proceed, run}
+use Rattle.journal.specs.declared.Verdict.{Verdict}
+use Rattle.journal.specs.declared.Verdict.the-variants.{Hold, Store, Refuse}
+use Rattle.journal.specs.Delivery.{refusal, verdictBy, verdictOf, delivered, refused, proceed, run}
 use Rattle.journal.specs.Arrivals.{arrivals}
 use Rattle.journal.proofs.Values.{not-held, has-room}
 
 -- ---- a verdict and what it means
 
 -- what is held is held, and only that
-pub held-verdict : (n : ℕ) (hs : List Statement) (s : Statement) → heldAmong s hs ≡ true → verdictOf n hs s ≡ hold
+pub held-verdict : (n : ℕ) (hs : List Statement) (s : Statement) (at : ℕ) → heldAmong s hs ≡ true → verdictOf n hs s at ≡ Hold
 unfolding verdictOf judgementOf
-held-verdict n hs s h = rw h
+held-verdict n hs s at h = rw h
 
-pub hold-held : (n : ℕ) (hs : List Statement) (s : Statement) → verdictOf n hs s ≡ hold → heldAmong s hs ≡ true
+pub hold-held : (n : ℕ) (hs : List Statement) (s : Statement) (at : ℕ) → verdictOf n hs s at ≡ Hold → heldAmong s hs ≡ true
 unfolding verdictOf judgementOf
-hold-held n hs s h = by (heldAmong s hs) refl h
+hold-held n hs s at h = by (heldAmong s hs) refl h
   where
     by : (t : Bool) → heldAmong s hs ≡ t
-        → verdictBy (pick t Held (lastAmong (s .key) First hs)) (s .old-date) (s .old-balance) (length hs) (n - linesOf hs) (sizeOf s) ≡ hold → t ≡ true
+        → verdictBy (pick t Held (lastAmong (s .key) First hs)) (s .old-date) (s .old-balance) (length hs) (n - linesOf hs) (sizeOf s) at ≡ Hold → t ≡ true
     by true e g = refl
     by false e g =
         absurd (other (followsBy (lastAmong (s .key) First hs) (s .old-date) (s .old-balance)) (ltb (length hs) mostEntries) (leb (sizeOf s) (n - linesOf hs))
         (rw (not-held (s .key) First hs refl) at g))
       where
-        other : (b c d : Bool) → pick b (pick c (pick d store (refuse 24)) (refuse 23)) (refuse 22) ≡ hold → ⊥
+        other : (b c d : Bool) → pick b (pick c (pick d Store (Refuse (refusal 24 at))) (Refuse (refusal 23 at))) (Refuse (refusal 22 at)) ≡ Hold → ⊥
         other false c d e = let z : _≡_ {A = ℕ} 0 1 = cc in omega arith
         other true false d e = let z : _≡_ {A = ℕ} 0 1 = cc in omega arith
         other true true false e = let z : _≡_ {A = ℕ} 0 1 = cc in omega arith
         other true true true e = let z : _≡_ {A = ℕ} 0 1 = cc in omega arith
 
 -- what is stored is new, and follows
-pub store-follows : (n : ℕ) (hs : List Statement) (s : Statement) → verdictOf n hs s ≡ store → follows s hs ≡ true
+pub store-follows : (n : ℕ) (hs : List Statement) (s : Statement) (at : ℕ) → verdictOf n hs s at ≡ Store → follows s hs ≡ true
 unfolding verdictOf
-store-follows n hs s e = by (judgementOf s hs) e
+store-follows n hs s at e = by (judgementOf s hs) e
   where
-    by : (j : Judgement) → verdictBy j (s .old-date) (s .old-balance) (length hs) (n - linesOf hs) (sizeOf s) ≡ store → followsBy j (s .old-date) (s .old-balance) ≡ true
+    by : (j : Judgement) → verdictBy j (s .old-date) (s .old-balance) (length hs) (n - linesOf hs) (sizeOf s) at ≡ Store → followsBy j (s .old-date) (s .old-balance) ≡ true
     by Held g = absurd (let z : _≡_ {A = ℕ} 0 1 = cc in omega arith)
     by First g = refl
     by (After d b) g = other (followsBy (After d b) (s .old-date) (s .old-balance)) g
       where
-        other : (t : Bool) → pick t (pick (ltb (length hs) mostEntries) (pick (leb (sizeOf s) (n - linesOf hs)) store (refuse 24)) (refuse 23)) (refuse 22) ≡ store → t ≡ true
+        other : (t : Bool) → pick t (pick (ltb (length hs) mostEntries) (pick (leb (sizeOf s) (n - linesOf hs)) Store (Refuse (refusal 24 at))) (Refuse (refusal 23 at))) (Refuse (refusal 22 at)) ≡ Store → t ≡ true
         other true g = refl
         other false g = absurd (let z : _≡_ {A = ℕ} 0 1 = cc in omega arith)
 
-pub store-new : (n : ℕ) (hs : List Statement) (s : Statement) → verdictOf n hs s ≡ store → heldAmong s hs ≡ false
-store-new n hs s e = by (heldAmong s hs) refl
+pub store-new : (n : ℕ) (hs : List Statement) (s : Statement) (at : ℕ) → verdictOf n hs s at ≡ Store → heldAmong s hs ≡ false
+store-new n hs s at e = by (heldAmong s hs) refl
   where
     by : (t : Bool) → heldAmong s hs ≡ t → t ≡ false
-    by true h = absurd (let q = sym e ∙ held-verdict n hs s h in let z : _≡_ {A = ℕ} 0 1 = cc in omega arith)
+    by true h = absurd (let q = sym e ∙ held-verdict n hs s at h in let z : _≡_ {A = ℕ} 0 1 = cc in omega arith)
     by false h = refl
 
 -- ---- what a journal can hold, as the test sees it
@@ -81,9 +83,9 @@ pub kept : {n : ℕ} {ss : List Statement} → Keepable n ss → Kept n ss
 kept {n} {ss} k = record { few = k .few; room = k .room; alone = k .alone; row = row-of [] ss (k .distinct) (k .chained) }
 
 -- with one more that is stored
-kept-store : {n : ℕ} {hs : List Statement} {s : Statement} → Kept n hs → Writable july s → verdictOf n hs s ≡ store → Kept n (hs ++ (s ∷ []))
-kept-store {n} {hs} {s} k w e =
-    let r = has-room n hs s e in
+kept-store : {n : ℕ} {hs : List Statement} {s : Statement} (at : ℕ) → Kept n hs → Writable july s → verdictOf n hs s at ≡ Store → Kept n (hs ++ (s ∷ []))
+kept-store {n} {hs} {s} at k w e =
+    let r = has-room n hs s at e in
     let a = r .0 in
     let b = r .1 in
     let c = k .room in
@@ -93,7 +95,7 @@ kept-store {n} {hs} {s} k w e =
       few = omega arith;
       room = omega arith;
       alone = all-append (Writable july) hs (s ∷ []) (k .alone) (w, tt);
-      row = row-snoc [] hs s (k .row) (store-follows n hs s e);
+      row = row-snoc [] hs s (k .row) (store-follows n hs s at e);
     }
 
 -- ---- the run
@@ -114,22 +116,22 @@ ran n hs behind stored held [] {L} {x} {y} k w e =
     let q : held ≡ y = cc in
     record { list = sym l ∙ sym (append-nil hs); stores = omega arith; all = omega arith; kept = rw (← l) k }
 ran n hs behind stored held (s ∷ ss) {L} {x} {y} k w e =
-    by (verdictOf n hs s) refl e (λ g. ran n hs (behind + sizeOf s) stored (held + 1) ss k (w .1) g)
-    (λ v g. ran n (hs ++ (s ∷ [])) (behind + sizeOf s) (stored + 1) held ss (kept-store k (w .0) v) (w .1) g)
+    by (verdictOf n hs s (behind + 1)) refl e (λ g. ran n hs (behind + sizeOf s) stored (held + 1) ss k (w .1) g)
+    (λ v g. ran n (hs ++ (s ∷ [])) (behind + sizeOf s) (stored + 1) held ss (kept-store (behind + 1) k (w .0) v) (w .1) g)
   where
-    by : (v : Verdict) → verdictOf n hs s ≡ v
-        → proceed v (run n hs (behind + sizeOf s) stored (held + 1) ss) (run n (hs ++ (s ∷ [])) (behind + sizeOf s) (stored + 1) held ss) (λ m. refused m (behind + 1))
+    by : (v : Verdict) → verdictOf n hs s (behind + 1) ≡ v
+        → proceed v (run n hs (behind + sizeOf s) stored (held + 1) ss) (run n (hs ++ (s ∷ [])) (behind + sizeOf s) (stored + 1) held ss) refused
         ≡ delivered L x y
         → (run n hs (behind + sizeOf s) stored (held + 1) ss ≡ delivered L x y → Ran n hs stored (held + 1) ss L x y)
-        → (verdictOf n hs s ≡ store → run n (hs ++ (s ∷ [])) (behind + sizeOf s) (stored + 1) held ss ≡ delivered L x y → Ran n (hs ++ (s ∷ [])) (stored + 1) held ss L x y)
+        → (verdictOf n hs s (behind + 1) ≡ Store → run n (hs ++ (s ∷ [])) (behind + sizeOf s) (stored + 1) held ss ≡ delivered L x y → Ran n (hs ++ (s ∷ [])) (stored + 1) held ss L x y)
         → Ran n hs stored held (s ∷ ss) L x y
-    by hold v g i j =
+    by Hold v g i j =
         let r = i g in
-        let h = hold-held n hs s v in
+        let h = hold-held n hs s (behind + 1) v in
         record { list = rw h (r .list); stores = rw h (r .stores); all = let a = r .all in omega arith; kept = r .kept }
-    by store v g i j =
+    by Store v g i j =
         let r = j v g in
-        let h = store-new n hs s v in
+        let h = store-new n hs s (behind + 1) v in
         let a = r .all in
         let b = r .stores in
         record {
@@ -138,7 +140,7 @@ ran n hs behind stored held (s ∷ ss) {L} {x} {y} k w e =
           all = omega arith;
           kept = r .kept;
         }
-    by (refuse m) v g i j = absurd (let z : _≡_ {A = ℕ} 0 1 = cc in omega arith)
+    by (Refuse r) v g i j = absurd (let z : _≡_ {A = ℕ} 0 1 = cc in omega arith)
 
 -- the layout of what can be held is a journal of it
 pub kept-journal : {n : ℕ} {ss : List Statement} → n ≤ mostLines → Kept n ss → Journal (journalOf n ss) ss

@@ -79,7 +79,7 @@ one-more {j} {H} g f b = by (outcomeOf j f b) refl
   where
     by : (o : Outcome) → outcomeOf j f b ≡ o → Journal (contentOf j f b) (H ++ arrivals H (acceptedBy (answerOf o) (statementsOf july f b)))
     by (delivered L x y) e = let s = stored g f b e in rw (← s .list) (s .journal)
-    by (refused n k) e = rw (append-nil H, unchanged g f b e) g
+    by (refused r) e = rw (append-nil H, unchanged g f b e) g
 
 -- one event: what it leaves
 one-event : {j : List ℕ} {H : List Statement} → Journal j H → (e : Event) → Journal (afterOne ours j e) (heldAfterOne ours j H e)
@@ -178,7 +178,7 @@ unfolding run
 run-held n hs behind stored held [] h = let z : held + 0 ≡ held = omega arith in rw z
 run-held n hs behind stored held (s ∷ ss) h =
     let z : held + 1 + length ss ≡ held + suc (length ss) = omega arith in
-    rw (held-verdict n hs s (h .0)) (run-held n hs (behind + sizeOf s) stored (held + 1) ss (h .1) ∙ ap (delivered hs stored) z)
+    rw (held-verdict n hs s (behind + 1) (h .0)) (run-held n hs (behind + sizeOf s) stored (held + 1) ss (h .1) ∙ ap (delivered hs stored) z)
 
 -- so a file whose statements are all held changes nothing
 pub wholly-held : {j : List ℕ} {L ss : List Statement} → Journal j L → (g : Form) (c : List ℕ) → Reads july g c ss → HeldBy L ss
@@ -195,7 +195,7 @@ wholly-held {j} {L} {ss} d g c r h =
 -- an answer without a refusal
 pub answered : (o : Outcome) {s h : ℕ} → answerOf o ≡ Done s h → (L : List Statement) × (o ≡ delivered L s h)
 answered (delivered L x y) {s} {h} e = let p : x ≡ s = cc in let q : y ≡ h = cc in (L, rw (p, q))
-answered (refused n k) e = absurd (let z : _≡_ {A = ℕ} 0 1 = cc in omega arith)
+answered (refused r) e = absurd (let z : _≡_ {A = ℕ} 0 1 = cc in omega arith)
 
 -- ---- DEMAND 3
 

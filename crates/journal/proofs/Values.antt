@@ -2,33 +2,38 @@
 use mathlib.Core.Path.{_≡_, refl, sym, ap, ap₂, _∙_}
 use mathlib.Core.Bool.{Bool, true, false, _||_}
 use mathlib.Core.List.{List, [], _∷_, _++_}
-use Prim.Native.Nat.{ℕ, _-_, _<_, _≤_}
+use Prim.Native.Nat.{ℕ, zero, suc, _+_, _-_, _/_, _<_, _≤_}
 use native.Mathlib.Omega.{arith}
 use lib.Dec.{leb, ltb}
-use lib.ListN.{length}
+use lib.ListN.{length, take, drop, length-append}
 use borrow.Author.Tests.{ltb-true, leb-true}
 use Rattle.zones.specs.Choice.{pick}
 use Rattle.framing.specs.declared.Form.{Form}
+use Rattle.framing.specs.Files.{widthOf}
 use Rattle.grammar.specs.declared.Key.{Key}
 use Rattle.grammar.specs.Record.{sameKey}
 use Rattle.grammar.specs.Statements.{Statement}
 use Rattle.grammar.specs.Files.{Reads}
 use Rattle.grammar.specs.Parts.{sizeOf}
 use Rattle.grammar.proofs.Tests.{or-assoc}
-use Rattle.records.specs.July.{july}
+use Rattle.records.specs.July.{recordSize, july}
 use Rattle.records.specs.Looks.{lookOf}
 use Rattle.contents.specs.Heads.{recordAtOf}
 use Rattle.bodies.specs.Bodies.{identical}
 use Rattle.bodies.proofs.Ends.{look-date, look-balance}
-use Rattle.bodies.proofs.Identical.{same-identical}
+use Rattle.bodies.proofs.Identical.{same-identical, part-count}
 use Rattle.entries.specs.Entries.{mostEntries}
 use Rattle.journal_layout.specs.declared.Judgement.{Judgement}
 use Rattle.journal_layout.specs.declared.Judgement.the-variants.{Held, First, After}
 use Rattle.journal_layout.specs.Chains.{heldAmong, lastAmong, judgementOf, followsBy}
 use Rattle.journal_layout.specs.Layout.{linesOf}
+use Rattle.journal_layout.specs.Test.{heldOf}
 use Rattle.journal_layout.proofs.Holding.{Holding, later-value, judged-value}
-use Rattle.journal.specs.Delivery.{Verdict, hold, store, refuse, isHeld, verdictBy, verdictOf}
-use Rattle.journal.specs.Plans.{heldIn, lastIn, judgedIn, judgedAll, verdictNumber, Reading}
+use Rattle.journal_layout.proofs.Exact.{journal-held, sound-journal}
+use Rattle.journal.specs.declared.Verdict.{Verdict}
+use Rattle.journal.specs.declared.Verdict.the-variants.{Hold, Store, Refuse}
+use Rattle.journal.specs.Delivery.{refusal, isHeld, verdictBy, verdictOf, linesIn}
+use Rattle.journal.specs.Plans.{partsFrom, heldIn, lastIn, judgedIn, judgedAll, Reading, Turned}
 
 -- ---- two rows of statements
 
@@ -86,74 +91,65 @@ module _ {f : Form} {x : List ℕ} {t : Statement} (r : Reads july f x (t ∷ []
       by false = rw (not-held (t .key) First H refl, held-value hs P p, last-value L hs P p)
 
   -- the verdict
-  pub verdict-value : {j : List ℕ} {H : List Statement} (hs : List (List ℕ)) (P : List Statement) {g : Judgement} {o : List ℕ} (n entries left size : ℕ)
+  pub verdict-value : {j : List ℕ} {H : List Statement} (hs : List (List ℕ)) (P : List Statement) {g : Judgement} {o : List ℕ} (n entries left size at : ℕ)
       → Holding j H → Reading f hs P → g ≡ judgedAll j (length H) f hs x → o ≡ recordAtOf x 0
       → entries ≡ length (H ++ P) → left ≡ n - linesOf (H ++ P) → size ≡ sizeOf t
-      → verdictBy g (lookOf o .day) (lookOf o .amount) entries left size ≡ verdictOf n (H ++ P) t
+      → verdictBy g (lookOf o .day) (lookOf o .amount) entries left size at ≡ verdictOf n (H ++ P) t at
   unfolding verdictOf
-  verdict-value hs P n entries left size h p e q a b c =
+  verdict-value hs P n entries left size at h p e q a b c =
       rw (e, all-value hs P h p, q, look-date r, look-balance r, a, b, c)
 
--- ---- what a number says
+-- ---- the turn
 
-abbrev made : (held follows entry lines : Bool) → Verdict
-made a b c d = pick a hold (pick b (pick c (pick d store (refuse 24)) (refuse 23)) (refuse 22))
+-- as many statements as parts
+pub reading-length : (f : Form) (hs : List (List ℕ)) (P : List Statement) → Reading f hs P → length P ≡ length hs
+reading-length f [] [] r = refl
+reading-length f [] (s ∷ P) r = absurd r
+reading-length f (h ∷ hs) [] r = absurd r
+reading-length f (h ∷ hs) (s ∷ P) r = ap suc (reading-length f hs P (r .1))
 
-made-hold : (a b c d : Bool) → verdictNumber (made a b c d) ≡ 0 → made a b c d ≡ hold
-made-hold true b c d e = refl
-made-hold false false c d e = absurd (omega arith)
-made-hold false true false d e = absurd (omega arith)
-made-hold false true true false e = absurd (omega arith)
-made-hold false true true true e = absurd (omega arith)
+pub length-parts : (n p : ℕ) (places ends b : List ℕ) → length (partsFrom n p places ends b) ≡ n
+unfolding partsFrom
+length-parts zero p places ends b = refl
+length-parts (suc n) p places ends b = ap suc (length-parts n (p + 1) places ends b)
 
-made-store : (a b c d : Bool) → verdictNumber (made a b c d) ≡ 1 → made a b c d ≡ store
-made-store true b c d e = absurd (omega arith)
-made-store false false c d e = absurd (omega arith)
-made-store false true false d e = absurd (omega arith)
-made-store false true true false e = absurd (omega arith)
-made-store false true true true e = refl
+-- at its return
+module _ (j : List ℕ) (f : Form) (b places ends : List ℕ) (held count left at end : ℕ) where
+  abbrev x : List ℕ
+  x = take (end - at) (drop at b)
 
-made-refuse : (a b c d : Bool) → 1 < verdictNumber (made a b c d) → made a b c d ≡ refuse (verdictNumber (made a b c d))
-made-refuse true b c d e = absurd (omega arith)
-made-refuse false false c d e = refl
-made-refuse false true false d e = refl
-made-refuse false true true false e = refl
-made-refuse false true true true e = absurd (omega arith)
+  pub turned : {g : Judgement} {o : List ℕ} {v : Verdict} → g ≡ judgedAll j held f (partsFrom count 0 places ends b) x → o ≡ recordAtOf x 0
+      → v ≡ verdictBy g (lookOf o .day) (lookOf o .amount) (held + count) left (length x / widthOf recordSize f) (at / widthOf recordSize f + 1)
+      → Turned j f b places ends held count left at end v
+  turned p q e =
+      record {
+        verdict = λ t.
+            let hs = partsFrom count 0 places ends b in
+            let c = reading-length f hs (t .list) (t .planned) in
+            let d = length-parts count 0 places ends b in
+            let l = length-append (heldOf j) (t .list) in
+            let h = t .entry in
+            e
+            ∙ verdict-value (t .reads) hs (t .list) (linesIn j) (held + count) left (length x / widthOf recordSize f) (at / widthOf recordSize f + 1)
+            (journal-held (sound-journal j (t .sound)) .holding) (t .planned) (rw h at p) q (omega arith) (t .room) (part-count (t .reads));
+      }
 
-made-room : (a b c d : Bool) → made a b c d ≡ store → (c ≡ true) × (d ≡ true)
-made-room true b c d e = absurd (let z : _≡_ {A = ℕ} 0 1 = cc in omega arith)
-made-room false false c d e = absurd (let z : _≡_ {A = ℕ} 0 1 = cc in omega arith)
-made-room false true false d e = absurd (let z : _≡_ {A = ℕ} 0 1 = cc in omega arith)
-made-room false true true false e = absurd (let z : _≡_ {A = ℕ} 0 1 = cc in omega arith)
-made-room false true true true e = (refl, refl)
+-- ---- what a verdict says
 
--- the number of a verdict says which it is
-module _ (n : ℕ) (hs : List Statement) (s : Statement) where
-  abbrev a : Bool
-  a = isHeld (judgementOf s hs)
+abbrev made : (held follows entry lines : Bool) → (at : ℕ) → Verdict
+made a b c d at = pick a Hold (pick b (pick c (pick d Store (Refuse (refusal 24 at))) (Refuse (refusal 23 at))) (Refuse (refusal 22 at)))
 
-  abbrev b : Bool
-  b = followsBy (judgementOf s hs) (s .old-date) (s .old-balance)
+made-room : (a b c d : Bool) (at : ℕ) → made a b c d at ≡ Store → (c ≡ true) × (d ≡ true)
+made-room true b c d at e = absurd (let z : _≡_ {A = ℕ} 0 1 = cc in omega arith)
+made-room false false c d at e = absurd (let z : _≡_ {A = ℕ} 0 1 = cc in omega arith)
+made-room false true false d at e = absurd (let z : _≡_ {A = ℕ} 0 1 = cc in omega arith)
+made-room false true true false at e = absurd (let z : _≡_ {A = ℕ} 0 1 = cc in omega arith)
+made-room false true true true at e = (refl, refl)
 
-  abbrev c : Bool
-  c = ltb (length hs) mostEntries
-
-  abbrev d : Bool
-  d = leb (sizeOf s) (n - linesOf hs)
-
-  pub is-hold : verdictNumber (verdictOf n hs s) ≡ 0 → verdictOf n hs s ≡ hold
-  unfolding verdictOf
-  is-hold e = made-hold a b c d e
-
-  pub is-store : verdictNumber (verdictOf n hs s) ≡ 1 → verdictOf n hs s ≡ store
-  unfolding verdictOf
-  is-store e = made-store a b c d e
-
-  pub is-refuse : 1 < verdictNumber (verdictOf n hs s) → verdictOf n hs s ≡ refuse (verdictNumber (verdictOf n hs s))
-  unfolding verdictOf
-  is-refuse e = made-refuse a b c d e
-
-  -- where one is stored there is an entry, and there are lines
-  pub has-room : verdictOf n hs s ≡ store → (length hs < mostEntries) × (sizeOf s ≤ n - linesOf hs)
-  unfolding verdictOf
-  has-room e = let r = made-room a b c d e in (ltb-true (length hs) mostEntries (r .0), leb-true (sizeOf s) (n - linesOf hs) (r .1))
+-- where one is stored there is an entry, and there are lines
+pub has-room : (n : ℕ) (hs : List Statement) (s : Statement) (at : ℕ) → verdictOf n hs s at ≡ Store → (length hs < mostEntries) × (sizeOf s ≤ n - linesOf hs)
+unfolding verdictOf
+has-room n hs s at e =
+    let j = judgementOf s hs in
+    let r = made-room (isHeld j) (followsBy j (s .old-date) (s .old-balance)) (ltb (length hs) mostEntries) (leb (sizeOf s) (n - linesOf hs)) at e in
+    (ltb-true (length hs) mostEntries (r .0), leb-true (sizeOf s) (n - linesOf hs) (r .1))

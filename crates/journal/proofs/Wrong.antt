@@ -25,6 +25,7 @@ use Rattle.journal_layout.specs.Layout.{mostLines, isLength, linesOf, journalOf
 use Rattle.journal_layout.proofs.Exact.{sound-unique, journal-length}
 use Rattle.journal.specs.declared.Delivery.{Delivery}
 use Rattle.journal.specs.declared.Delivery.the-variants.{Done, Refused}
+use Rattle.journal.specs.declared.Refusal.{Refusal}
 use Rattle.journal.specs.Delivery.{verdictOf, delivered, run, linesIn, outcomeOf, contentOf}
 use Rattle.journal.specs.Answers.{Delivers}
 use Rattle.journal.specs.Arrivals.{arrivals}
@@ -100,7 +101,7 @@ unfolding february-alone
 two-lines-long = journal-length (february-alone 2 (omega arith) (omega arith))
 
 -- delivered is not refused
-done-refused : {s h n r : ℕ} → Done s h ≡ Refused n r → ⊥
+done-refused : {s h : ℕ} {r : Refusal} → Done s h ≡ Refused r → ⊥
 done-refused e = let z : _≡_ {A = ℕ} 0 1 = cc in omega arith
 
 module _ {O : List ℕ → List ℕ} {D : Deliver} (d : Demand3 O D) where
@@ -168,8 +169,8 @@ module _ {O : List ℕ → List ℕ} {D : Deliver} (d : Demand3 O D) where
   takes-nonsense s h e = not-refused room room-right (form 0) lone e lone-refused
 
   -- one that refuses a file when it comes again with CR LF
-  pub refuses-again : (s h n r : ℕ) → D (O room) (form 1) nil .answer ≡ Done s h → D (D (O room) (form 1) nil .journal) (form 2) nil-crlf .answer ≡ Refused n r → ⊥
+  pub refuses-again : (s h : ℕ) (r : Refusal) → D (O room) (form 1) nil .answer ≡ Done s h → D (D (O room) (form 1) nil .journal) (form 2) nil-crlf .answer ≡ Refused r → ⊥
   unfolding after
-  refuses-again s h n r e g =
+  refuses-again s h r e g =
       let w = rw nil-relined at (d .again room room-right [] (form 1) nil s h e [] (form 2) refl) in
       done-refused (sym (ap (λ a. a .answer) w) ∙ g)

@@ -6,7 +6,7 @@ use Prim.Native.Nat.{ℕ}
 use lib.Dec.{eqb}
 use Rattle.zones.specs.Choice.{pick}
 use Rattle.framing.specs.declared.Form.{Form}
-use Rattle.journal.specs.Delivery.{Outcome, delivered, refused, outcomeOf, contentOf}
+use Rattle.journal.specs.Delivery.{refusal, Outcome, delivered, refused, outcomeOf, contentOf}
 use Rattle.journal.specs.Newest.{newestOf, newestPart}
 use Rattle.journal.specs.Holdings.{holdingOf, bodyIn, ofAccountIn}
 use Rattle.journal.specs.declared.Holding.{Holding}
@@ -26,7 +26,7 @@ pub record PaperDelivery : Type 0 where
 
 abbrev pub paperDelivery : Delivery → PaperDelivery
 paperDelivery (Done s h) = record { number = 0; at = 0; stored = s; held = h }
-paperDelivery (Refused n r) = record { number = n; at = r; stored = 0; held = 0 }
+paperDelivery (Refused r) = record { number = r .number; at = r .«record»; stored = 0; held = 0 }
 
 -- number, record, and of a statement found: 1 where the journal holds it and 2 where the file does, first byte, length, line-end number, 0 for the journal, whose bodies have no line ends
 pub record PaperNewest : Type 0 where
@@ -55,16 +55,16 @@ paperHolding (H.Refused n r) = record { number = n; at = r; statements = 0 }
 -- an outcome as the code answers it
 abbrev pub answerOf : Outcome → Delivery
 answerOf (delivered ss s h) = Done s h
-answerOf (refused n r) = Refused n r
+answerOf (refused r) = Refused r
 
 -- and as the paper gives it
 abbrev pub paperOutcome : Outcome → PaperDelivery
 paperOutcome (delivered ss s h) = record { number = 0; at = 0; stored = s; held = h }
-paperOutcome (refused n r) = record { number = n; at = r; stored = 0; held = 0 }
+paperOutcome (refused r) = record { number = r .number; at = r .«record»; stored = 0; held = 0 }
 
 -- the code's answer that has a record: a refusal where there is a number
 abbrev pub deliveryBy : PaperDelivery → Delivery
-deliveryBy p = pick (eqb (p .number) 0) (Done (p .stored) (p .held)) (Refused (p .number) (p .at))
+deliveryBy p = pick (eqb (p .number) 0) (Done (p .stored) (p .held)) (Refused (refusal (p .number) (p .at)))
 
 -- deliver: the paper's record is that of the outcome, and so is the case
 pub record Delivers (j : List ℕ) (f : Form) (b : List ℕ) (r : Delivery) (j′ : List ℕ) : Type 0 where

@@ -18,49 +18,50 @@ use Rattle.journal_layout.specs.declared.Judgement.the-variants.{Held, First, A
 use Rattle.journal_layout.specs.Chains.{judgementOf, followsBy}
 use Rattle.journal_layout.specs.Layout.{linesOf, journalOf}
 use Rattle.journal_layout.specs.Test.{soundIn, heldOf}
+use Rattle.journal.specs.declared.Refusal.{Refusal}
+use Rattle.journal.specs.declared.Verdict.{Verdict}
+use Rattle.journal.specs.declared.Verdict.the-variants.{Hold, Store, Refuse}
 
--- what becomes of a statement
-pub data Verdict : Type 0 where
-  hold : Verdict
-  store : Verdict
-  refuse : (number : ℕ) → Verdict
+-- a refusal by its number and its record
+abbrev pub refusal : (number at : ℕ) → Refusal
+refusal n r = record { number = n; «record» = r }
 
 abbrev pub isHeld : Judgement → Bool
 isHeld Held = true
 isHeld First = false
 isHeld (After d b) = false
 
--- A held one is held, also if the table is full. Otherwise it must follow, else 22. Then no entry left gives 23, too few lines left 24.
-abbrev pub verdictBy : Judgement → (date : ℕ) → (balance : ℤ) → (entries left size : ℕ) → Verdict
-verdictBy j d b entries left size =
-    pick (isHeld j) hold
+-- What becomes of a statement. A held one is held, also if the table is full. Otherwise it must follow, else 22. Then no entry left gives 23, too few lines left 24. A refusal reports the 01's record.
+abbrev pub verdictBy : Judgement → (date : ℕ) → (balance : ℤ) → (entries left size at : ℕ) → Verdict
+verdictBy j d b entries left size at =
+    pick (isHeld j) Hold
     (pick (followsBy j d b)
-    (pick (ltb entries mostEntries) (pick (leb size left) store (refuse 24)) (refuse 23))
-    (refuse 22))
+    (pick (ltb entries mostEntries) (pick (leb size left) Store (Refuse (refusal 24 at))) (Refuse (refusal 23 at)))
+    (Refuse (refusal 22 at)))
 
--- a statement beside those held in a journal of n lines
-unfoldable pub verdictOf : (n : ℕ) → List Statement → Statement → Verdict
-verdictOf n hs s = verdictBy (judgementOf s hs) (s .old-date) (s .old-balance) (length hs) (n - linesOf hs) (sizeOf s)
+-- a statement, whose 01 is record `at` of its file, beside those held in a journal of n lines
+unfoldable pub verdictOf : (n : ℕ) → List Statement → Statement → (at : ℕ) → Verdict
+verdictOf n hs s at = verdictBy (judgementOf s hs) (s .old-date) (s .old-balance) (length hs) (n - linesOf hs) (sizeOf s) at
 
--- what a delivery comes to: the statements held then, and how many were stored and how many were held; or a refusal and its record
+-- what a delivery comes to: the statements held then, and how many were stored and how many were held; or a refusal
 pub data Outcome : Type 0 where
   delivered : (list : List Statement) → (stored held : ℕ) → Outcome
-  refused : (number at : ℕ) → Outcome
+  refused : Refusal → Outcome
 
 -- one of three, by a verdict
-abbrev pub proceed : {A : Type 0} → Verdict → (held stored : A) → (ℕ → A) → A
-proceed hold a b c = a
-proceed store a b c = b
-proceed (refuse k) a b c = c k
+abbrev pub proceed : {A : Type 0} → Verdict → (held stored : A) → (Refusal → A) → A
+proceed Hold a b c = a
+proceed Store a b c = b
+proceed (Refuse r) a b c = c r
 
--- So many records of the file are behind, so many statements stored and held. A refusal reports the 01's record.
+-- so many records of the file are behind, so many statements stored and held
 unfoldable pub run : (n : ℕ) → List Statement → (behind stored held : ℕ) → List Statement → Outcome
 run n hs behind stored held [] = delivered hs stored held
 run n hs behind stored held (s ∷ ss) =
-    proceed (verdictOf n hs s)
+    proceed (verdictOf n hs s (behind + 1))
     (run n hs (behind + sizeOf s) stored (held + 1) ss)
     (run n (hs ++ (s ∷ [])) (behind + sizeOf s) (stored + 1) held ss)
-    (λ k. refused k (behind + 1))
+    refused
 
 -- the body lines of a journal
 abbrev pub linesIn : List ℕ → ℕ
@@ -69,17 +70,17 @@ linesIn j = (length j - tableSize) / recordSize
 -- the file's refusals, then its statements
 abbrev pub outcomeBy : G.Answer → Outcome → Outcome
 outcomeBy (G.accepted c) o = o
-outcomeBy (G.refused n r) o = refused n r
+outcomeBy (G.refused n r) o = refused (refusal n r)
 
 -- THE DELIVERY: 21 first, then the file's refusals, then its statements in turn
 unfoldable pub outcomeOf : List ℕ → Form → List ℕ → Outcome
 outcomeOf j f b =
-    pick (soundIn j) (outcomeBy (checkOf july f b) (run (linesIn j) (heldOf j) 0 0 0 (statementsOf july f b))) (refused 21 0)
+    pick (soundIn j) (outcomeBy (checkOf july f b) (run (linesIn j) (heldOf j) 0 0 0 (statementsOf july f b))) (refused (refusal 21 0))
 
 -- the journal's bytes after it: any refusal leaves the whole journal unchanged
 abbrev pub contentBy : List ℕ → Outcome → List ℕ
 contentBy j (delivered ss stored held) = journalOf (linesIn j) ss
-contentBy j (refused n r) = j
+contentBy j (refused r) = j
 
 unfoldable pub contentOf : List ℕ → Form → List ℕ → List ℕ
 contentOf j f b = contentBy j (outcomeOf j f b)

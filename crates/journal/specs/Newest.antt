@@ -50,7 +50,7 @@ newestAmong f k held sent =
 -- the delivery's refusals come first
 abbrev pub newestBy : Outcome → Found → Found
 newestBy (delivered ss s h) x = x
-newestBy (refused n r) x = Refused n r
+newestBy (refused r) x = Refused (r .number) (r .«record»)
 
 -- THE NEWEST STATEMENT of the account that the bytes x name; no account has a key of another length
 unfoldable pub newestOf : List ℕ → Form → List ℕ → List ℕ → Found

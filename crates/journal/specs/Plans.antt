@@ -2,7 +2,7 @@
 use mathlib.Core.Path.{_≡_}
 use mathlib.Core.Bool.{Bool, true, false, _||_}
 use mathlib.Core.List.{List, [], _∷_, _++_}
-use Prim.Native.Nat.{ℕ, zero, suc, _+_, _-_, _*_, _<_, _≤_}
+use Prim.Native.Nat.{ℕ, zero, suc, _+_, _-_, _*_, _/_, _<_, _≤_}
 use lib.ListN.{length, take, drop, getD, replicate}
 use Rattle.zones.specs.Choice.{pick}
 use Rattle.framing.specs.declared.Form.{Form}
@@ -16,10 +16,12 @@ use Rattle.bodies.specs.Bodies.{bodyOf, sameRecords}
 use Rattle.entries.specs.Entries.{mostEntries, entrySize, lineAt}
 use Rattle.journal_layout.specs.declared.Judgement.{Judgement}
 use Rattle.journal_layout.specs.declared.Judgement.the-variants.{Held}
-use Rattle.journal_layout.specs.Layout.{entryOf}
+use Rattle.journal_layout.specs.Layout.{linesOf, entryOf}
 use Rattle.journal_layout.specs.Test.{soundIn, heldOf, laterOf, judgedBy}
-use Rattle.journal.specs.Delivery.{Verdict, hold, store, refuse, isHeld, contentOf, outcomeOf}
+use Rattle.journal.specs.Delivery.{isHeld, verdictOf, linesIn, contentOf, outcomeOf}
 use Rattle.journal.specs.declared.Delivery.the-variants.{Done, Refused}
+use Rattle.journal.specs.declared.Refusal.{Refusal}
+use Rattle.journal.specs.declared.Verdict.{Verdict}
 use Rattle.journal_layout.specs.declared.Free.{Free}
 use Rattle.journal.specs.declared.Plan.{Plan}
 use Rattle.journal.specs.Answers.{answerOf}
@@ -54,12 +56,6 @@ judgedIn last f hs s = pick (heldIn f hs s) Held (lastIn last f hs s)
 unfoldable pub judgedAll : List ℕ → (held : ℕ) → Form → List (List ℕ) → List ℕ → Judgement
 judgedAll j held f hs s = pick (isHeld (judgedBy j held f s)) Held (judgedIn (judgedBy j held f s) f hs s)
 
--- 0 held, 1 to be stored, else the refusal's number
-abbrev pub verdictNumber : Verdict → ℕ
-verdictNumber hold = 0
-verdictNumber store = 1
-verdictNumber (refuse k) = k
-
 -- parts that read as statements, one for one
 abbrev pub Reading : Form → List (List ℕ) → List Statement → Type 0
 Reading f [] [] = Unit
@@ -87,8 +83,9 @@ abbrev pub Roomy : (e k size : ℕ) → List Statement → Type 0
 Roomy e k size [] = Unit
 Roomy e k size (s ∷ ss) = (e < mostEntries) × (lineAt (k + sizeOf s) ≤ size) × Roomy (e + 1) (k + sizeOf s) size ss
 
--- an accepted file
-pub record Accepts (f : Form) (b : List ℕ) : Type 0 where
+-- a sound journal and an accepted file
+pub record Deliverable (j : List ℕ) (f : Form) (b : List ℕ) : Type 0 where
+  pub sound : soundIn j ≡ true
   pub counts : Counts
   pub yes : checkOf july f b ≡ accepted counts
 
@@ -98,9 +95,29 @@ donePlan count places ends free held =
     record { count = count; places = places; ends = ends; entry = free .entry; line = free .line; answer = Done count held }
 
 -- the plan of a refusal
-abbrev pub refusedPlan : (number at : ℕ) → Plan
-refusedPlan n r =
-    record { count = 0; places = replicate mostEntries 0; ends = replicate mostEntries 0; entry = 0; line = 0; answer = Refused n r }
+abbrev pub refusedPlan : Refusal → Plan
+refusedPlan r =
+    record { count = 0; places = replicate mostEntries 0; ends = replicate mostEntries 0; entry = 0; line = 0; answer = Refused r }
+
+-- a turn of the dry run: the part of a file from `at` to `end` reads as one statement, and the parts planned so far leave so many lines behind those held
+pub record Judgeable (j : List ℕ) (f : Form) (b places ends : List ℕ) (held count left at end : ℕ) : Type 0 where
+  pub statement : Statement
+  pub list : List Statement
+  pub sound : soundIn j ≡ true
+  pub entry : held ≡ length (heldOf j)
+  pub few : held + count ≤ mostEntries
+  pub named : (count ≤ length places) × (count ≤ length ends)
+  pub inside : Inside count places ends b
+  pub planned : Reading f (partsFrom count 0 places ends b) list
+  pub room : left ≡ linesIn j - linesOf (heldOf j ++ list)
+  pub rises : at < end
+  pub within : end ≤ length b
+  pub reads : Reads july f (take (end - at) (drop at b)) (statement ∷ [])
+
+-- its answer: the verdict on that statement beside the held and the planned ones
+pub record Turned (j : List ℕ) (f : Form) (b places ends : List ℕ) (held count left at end : ℕ) (v : Verdict) : Type 0 where
+  pub verdict : (t : Judgeable j f b places ends held count left at end)
+      → v ≡ verdictOf (linesIn j) (heldOf j ++ t .list) (t .statement) (at / widthOf recordSize f + 1)
 
 -- parts that can be written from an entry and a line on
 pub record Storable (j : List ℕ) (f : Form) (b places ends : List ℕ) (count entry line : ℕ) : Type 0 where

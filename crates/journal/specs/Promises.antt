@@ -21,6 +21,7 @@ use Rattle.journal_layout.specs.Chains.{Chained, ofAccount, Distinct}
 use Rattle.journal_layout.specs.Layout.{mostLines, linesOf}
 use Rattle.journal_layout.specs.Test.{soundIn, heldOf, entryPlaceOf, entryBodyOf}
 use Rattle.journal.specs.declared.Delivery.the-variants.{Done, Refused}
+use Rattle.journal.specs.declared.Refusal.{Refusal}
 use Rattle.journal.specs.Delivery.{outcomeOf, contentOf}
 use Rattle.journal.specs.Answers.{answerOf}
 use Rattle.journal.specs.Arrivals.{arrivals, Summed}
@@ -56,4 +57,4 @@ pub record Adds (j : List ℕ) (f : Form) (b : List ℕ) : Type 0 where
   pub counted : (s h : ℕ) → answerOf (outcomeOf j f b) ≡ Done s h
       → (s ≡ length (arrivals (heldOf j) (statementsOf july f b))) × (s + h ≡ length (statementsOf july f b))
   pub read : (s h : ℕ) → answerOf (outcomeOf j f b) ≡ Done s h → Reads july f b (statementsOf july f b)
-  pub unchanged : (n r : ℕ) → answerOf (outcomeOf j f b) ≡ Refused n r → contentOf j f b ≡ j
+  pub unchanged : (r : Refusal) → answerOf (outcomeOf j f b) ≡ Refused r → contentOf j f b ≡ j

@@ -32,7 +32,7 @@ Deliver = List ℕ → Form → List ℕ → After
 -- the statements of a file delivered without a refusal
 abbrev pub acceptedBy : Delivery → List Statement → List Statement
 acceptedBy (Done s h) ss = ss
-acceptedBy (Refused n r) ss = []
+acceptedBy (Refused r) ss = []
 
 module _ (D : Deliver) where
   -- the journal after one event

@@ -1,6 +1,5 @@
 // The journal: a file delivered to it, the newest statement of an account, and what the crates above read of it. A dry run judges every statement and plans what to store; only a plan without a refusal is written.
 ghost use mathlib.Core.Path.{_≡_};
-ghost use mathlib.Core.Bool.{true};
 ghost use Prim.Native.Nat.{_+_, _*_, _<_, _≤_};
 ghost use lib.Dec.{eqb};
 ghost use lib.ListN.{length};
@@ -13,11 +12,11 @@ ghost use Rattle.grammar.specs.Parts.{sizeOf};
 ghost use Rattle.records.specs.July.{july};
 ghost use Rattle.records.specs.Looks.{lookOf};
 ghost use Rattle.entries.specs.Entries.{mostEntries, lineAt};
-ghost use Rattle.journal.specs.Delivery.{isHeld, verdictBy};
-ghost use Rattle.journal_layout.specs.Test.{soundIn, heldOf};
+ghost use Rattle.journal.specs.Delivery.{refusal, isHeld, verdictBy};
+ghost use Rattle.journal_layout.specs.Test.{heldOf};
 ghost use Rattle.journal.specs.declared.Found.the-variants.{Refused};
 ghost use Rattle.journal.specs.Newest.{keySize, keyFrom, newestAmong, newestOf, isAccount, lastHeldFrom, lastPart};
-ghost use Rattle.journal.specs.Plans.{partsFrom, Inside, judgedIn, judgedAll, verdictNumber, Reading, written, writtenAll, Accepts, donePlan, refusedPlan, Storable, Planned, Searchable, Finds};
+ghost use Rattle.journal.specs.Plans.{partsFrom, Inside, judgedIn, judgedAll, Reading, written, writtenAll, Deliverable, donePlan, refusedPlan, Storable, Planned, Judgeable, Turned, Searchable, Finds};
 ghost use Rattle.journal.specs.Answers.{Delivers, NewestPlace, NewestPart, Holds, BodyOf, OfAccount};
 use framing::Form;
 use journal_layout::Free;
@@ -25,10 +24,23 @@ use journal_layout::Judgement;
 use journal_layout::Usage;
 use statements::Checked;
 
-// How many statements were stored, and how many were held; or a refusal's number and record.
+// Why a delivery is refused, and at which record.
+pub struct Refusal {
+    pub number: u64,
+    pub record: u64,
+}
+
+// How many statements were stored, and how many were held; or why it is refused.
 pub enum Delivery {
     Done { stored: u64, held: u64 },
-    Refused { number: u64, record: u64 },
+    Refused(Refusal),
+}
+
+// What becomes of a statement: it is held, or to be stored, or the delivery is refused for it.
+pub enum Verdict {
+    Hold,
+    Store,
+    Refuse(Refusal),
 }
 
 // Where the newest statement of an account stands: in the journal, without line ends, or in the file, with its line-end number.
@@ -126,29 +138,72 @@ fn judged_all(
     judged_planned(last, form, file, places, ends, count, s)
 }
 
-// What becomes of a statement: 0 held, 1 to be stored, else the refusal's number.
-fn verdict(judgement: Judgement, opening: &[u8], entries: usize, left: usize, size: usize) -> u64
-    ensures { λ v. ⌜ v ≡ verdictNumber (verdictBy judgement (lookOf (now (opening .entry)) .day) (lookOf (now (opening .entry)) .amount) entries left size) ⌝ }
+// A refusal by its number and its record.
+fn refusal_at(number: u64, record: u64) -> Refusal
+    ensures { λ r. ⌜ r ≡ refusal number «record» ⌝ }
+{
+    Refusal { number, record }
+}
+
+// What becomes of a statement, by what others say of it and the room that is left. Its 01 is this record.
+fn verdict_by(
+    judgement: Judgement,
+    opening: &[u8],
+    entries: usize,
+    left: usize,
+    size: usize,
+    record: u64,
+) -> Verdict
+    ensures { λ v. ⌜ v ≡ verdictBy judgement (lookOf (now (opening .entry)) .day) (lookOf (now (opening .entry)) .amount) entries left size «record» ⌝ }
 {
     if is_held(judgement) {
-        return 0;
+        return Verdict::Hold;
     }
     let old = records::look_at(opening);
     if !journal_layout::follows(judgement, old.day, old.amount) {
-        return 22;
+        return Verdict::Refuse(refusal_at(22, record));
     }
     if 128 <= entries {
-        return 23;
+        return Verdict::Refuse(refusal_at(23, record));
     }
     if left < size {
-        return 24;
+        return Verdict::Refuse(refusal_at(24, record));
     }
-    1
+    Verdict::Store
+}
+
+// What becomes of the statement that stands in the file from a place to its end, beside the held ones, so many, and the planned ones, which leave so many lines.
+fn turn(
+    journal: &[u8],
+    held: usize,
+    form: Form,
+    file: &[u8],
+    places: &[u32],
+    ends: &[u32],
+    count: usize,
+    left: usize,
+    at: usize,
+    end: usize,
+) -> Verdict
+    requires { ⌜ Judgeable (now journal) form (now file) (now places) (now ends) held count left at end ⌝ }
+    ensures { λ v. ⌜ Turned (now (journal .entry)) form (now (file .entry)) (now (places .entry)) (now (ends .entry)) held count left at end v ⌝ }
+{
+    let width = 120 + form.line_end as usize;
+    let s = &file[at..end];
+    let judgement = judged_all(journal, held, form, file, places, ends, count, s);
+    verdict_by(
+        judgement,
+        contents::record_at(s, 0),
+        held + count,
+        left,
+        s.len() / width,
+        (at / width + 1) as u64,
+    )
 }
 
 // The plan of a refusal stores nothing.
-fn refused_plan(number: u64, record: u64) -> Plan
-    ensures { λ r. ⌜ r ≡ refusedPlan number «record» ⌝ }
+fn refused_plan(refusal: Refusal) -> Plan
+    ensures { λ r. ⌜ r ≡ refusedPlan refusal ⌝ }
 {
     Plan {
         count: 0,
@@ -156,7 +211,7 @@ fn refused_plan(number: u64, record: u64) -> Plan
         ends: [0u32; 128],
         entry: 0,
         line: 0,
-        answer: Delivery::Refused { number, record },
+        answer: Delivery::Refused(refusal),
     }
 }
 
@@ -179,7 +234,7 @@ fn done_plan(count: usize, places: [u32; 128], ends: [u32; 128], free: Free, hel
 
 // The statements of an accepted file in turn, on what a sound journal holds and what is planned so far.
 fn dry_run(journal: &[u8], form: Form, file: &[u8]) -> Plan
-    requires { ⌜ (soundIn (now journal) ≡ true) × Accepts form (now file) ⌝ }
+    requires { ⌜ Deliverable (now journal) form (now file) ⌝ }
     ensures { λ r. ⌜ Planned (now (journal .entry)) form (now (file .entry)) r ⌝ }
 {
     let free = journal_layout::first_free(journal);
@@ -193,26 +248,26 @@ fn dry_run(journal: &[u8], form: Form, file: &[u8]) -> Plan
     let mut at: usize = 0;
     while at < file.len() {
         let end = readers::statement_end(form, file, at);
-        let s = &file[at..end];
-        let size = (end - at) / width;
-        let judgement = judged_all(journal, free.entry, form, file, &places, &ends, count, s);
-        let v = verdict(
-            judgement,
-            contents::record_at(s, 0),
-            free.entry + count,
+        match turn(
+            journal,
+            free.entry,
+            form,
+            file,
+            &places,
+            &ends,
+            count,
             lines - taken,
-            size,
-        );
-        if 1 < v {
-            return refused_plan(v, (at / width + 1) as u64);
-        }
-        if v == 1 {
-            places[count] = at as u32;
-            ends[count] = end as u32;
-            count += 1;
-            taken += size;
-        } else {
-            held += 1;
+            at,
+            end,
+        ) {
+            Verdict::Hold => held += 1,
+            Verdict::Store => {
+                places[count] = at as u32;
+                ends[count] = end as u32;
+                count += 1;
+                taken += (end - at) / width;
+            }
+            Verdict::Refuse(refusal) => return refused_plan(refusal),
         }
         at = end;
     }
@@ -266,7 +321,7 @@ fn planned(journal: &[u8], form: Form, file: &[u8]) -> Plan
     ensures { λ r. ⌜ Planned (now (journal .entry)) form (now (file .entry)) r ⌝ }
 {
     if !journal_layout::sound(journal) {
-        return refused_plan(21, 0);
+        return refused_plan(refusal_at(21, 0));
     }
     match statements::check(form, file) {
         Checked::Accepted {
@@ -274,7 +329,7 @@ fn planned(journal: &[u8], form: Form, file: &[u8]) -> Plan
             movements: _,
             complements: _,
         } => dry_run(journal, form, file),
-        Checked::Refused { number, record } => refused_plan(number, record),
+        Checked::Refused { number, record } => refused_plan(refusal_at(number, record)),
     }
 }
 
@@ -423,7 +478,12 @@ fn find_newest(journal: &[u8], form: Form, file: &[u8], key: &[u8]) -> Found
                 key,
             )
         }
-        Delivery::Refused { number, record } => Found::Refused { number, record },
+        Delivery::Refused(refusal) => {
+            Found::Refused {
+                number: refusal.number,
+                record: refusal.record,
+            }
+        }
     }
 }
 

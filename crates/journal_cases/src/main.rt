@@ -122,7 +122,7 @@ fn deliver(journal: &mut [u8], form: Form, file: &[u8]) {
             word(b" held");
             number(held);
         }
-        Delivery::Refused { number: n, record } => refused(n, record),
+        Delivery::Refused(refusal) => refused(refusal.number, refusal.record),
     }
     number(hash(journal));
     end_line();

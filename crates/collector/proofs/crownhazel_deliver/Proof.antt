@@ -17,8 +17,8 @@ enum-known-stored c = search needs
 answered-requires : tie.Need-answered-requires
 answered-requires c κs = search needs
 
-enum-known-number : tie.Need-enum-known-number
-enum-known-number c = search needs
+enum-known-refusal : tie.Need-enum-known-refusal
+enum-known-refusal c = search needs
 
 refused-requires : tie.Need-refused-requires
 refused-requires c κs = search needs
@@ -33,7 +33,7 @@ same-length-2 : tie.Need-same-length-2
 same-length-2 c = search needs
 
 returns-2 : tie.Need-returns-2
-returns-2 c = let p = sym (c .before .before .number .given .1) ∙ c .before .before .before .before .before .before .deliver .ensures .answer in record { answer = c .refused .ensures .answer ∙ refused-packed (delivered (c .before .before .before .before .before .before .before .before .before .before .args .journal .now) (c .before .before .before .before .before .before .before .before .before .before .args .line-end) (c .before .before .before .before .before .before .before .before .before .before .args .file .now) p) ∙ ap (λ a. packedDelivery (paperDelivery a)) p; content = c .before .before .before .before .before .before .deliver .ensures .content }
+returns-2 c = let p = sym (c .before .before .refusal .given .1) ∙ c .before .before .before .before .before .before .deliver .ensures .answer in record { answer = c .refused .ensures .answer ∙ refused-packed (delivered (c .before .before .before .before .before .before .before .before .before .before .args .journal .now) (c .before .before .before .before .before .before .before .before .before .before .args .line-end) (c .before .before .before .before .before .before .before .before .before .before .args .file .now) p) ∙ ap (λ a. packedDelivery (paperDelivery a)) p; content = c .before .before .before .before .before .before .deliver .ensures .content }
 
 pub crownhazel-deliver-spec : {M : Type 1} → statement M
 crownhazel-deliver-spec =
@@ -42,7 +42,7 @@ crownhazel-deliver-spec =
     deliver-requires
     enum-known-stored
     answered-requires
-    enum-known-number
+    enum-known-refusal
     refused-requires
     same-length
     returns
