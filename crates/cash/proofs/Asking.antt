@@ -23,7 +23,7 @@ use Rattle.grammar.specs.Record.{sameKey}
 use Rattle.grammar.specs.Statements.{Statement}
 use Rattle.grammar.specs.Files.{Reads}
 use Rattle.grammar.specs.Parts.{noStatement}
-use Rattle.records.specs.July.{july}
+use Rattle.records.specs.July.{codingOf}
 use Rattle.records.specs.declared.Look.{Look}
 use Rattle.records.specs.Looks.{lookOf}
 use Rattle.contents.specs.Heads.{recordAtOf}
@@ -255,7 +255,7 @@ module _ {j : List ℕ} {ss : List Statement} (p : Promise j ss) (x : List ℕ) 
   old-there : (i : ℕ) → i < length ss → lookOf (recordAtOf (bodyIn j (suc i)) 0) .amount ≡ getD ss i noStatement .old-balance
   old-there i l =
       let z : suc i - 1 ≡ i = omega arith in
-      let r : Reads july plain (bodyIn j (suc i)) (getD ss i noStatement ∷ []) = rw z at (p .reads (suc i) (omega arith) (omega arith)) in
+      let r : Reads (codingOf plain) plain (bodyIn j (suc i)) (getD ss i noStatement ∷ []) = rw z at (p .reads (suc i) (omega arith) (omega arith)) in
       look-balance r
 
   pub some-held : {r : ℕ} → r ≡ firstFrom (length ss) 0 j x → (r ≡ 0 → ⊥) → First r × (noAccount x ss ≡ false)

@@ -25,7 +25,7 @@ use Rattle.grammar.specs.Statements.{Movement, Statement, sizes, allRecords}
 use Rattle.grammar.specs.Files.{Reads}
 use Rattle.grammar.specs.Parts.{recordsBefore, noStatement}
 use Rattle.grammar.proofs.Rows.{addsThen, movesThen}
-use Rattle.records.specs.July.{recordSize, repeats, july, july2004, decodeRecord}
+use Rattle.records.specs.July.{recordSize, repeats, decodeRecord, codingOf, editionOf}
 use Rattle.records.specs.declared.Look.{Look}
 use Rattle.records.specs.Looks.{lookOf}
 use Rattle.statements.proofs.Judging.{look-small}
@@ -116,7 +116,7 @@ pub record Walked (s : Statement) (t : List ℤ) (first : ℕ) (b : List ℕ) (n
   pub long : length now ≡ length t
   pub table : now ≡ filled first t (take i (datedIn s))
 
-module _ {b : List ℕ} {s : Statement} (r : Reads july plain b (s ∷ [])) (t : List ℤ) (first : ℕ) where
+module _ {b : List ℕ} {s : Statement} (r : Reads (codingOf plain) plain b (s ∷ [])) (t : List ℤ) (first : ℕ) where
   long-body : length b ≡ (sizes (s .movements) + 2) * 120
   unfolding widthOf
   long-body = length-part r
@@ -154,9 +154,9 @@ module _ {b : List ℕ} {s : Statement} (r : Reads july plain b (s ∷ [])) (t :
 
       holds-there : HoldsAt b at (movement (s .key) (m .posting))
       holds-there =
-          let q : drop (before r 0 (omega arith) (w .i)) (allRecords july2004 (s ∷ []))
+          let q : drop (before r 0 (omega arith) (w .i)) (allRecords (editionOf plain) (s ∷ []))
           ≡ movement (s .key) (m .posting) ∷ addsThen (repeats (s .key) (m .posting)) (m .complements)
-          (movesThen july2004 (s .key) (drop (suc (w .i)) ms) (closing (s .key) (s .new-date) (s .new-balance) ∷ rest r 0 (omega arith) (w .i) .0)) =
+          (movesThen (editionOf plain) (s .key) (drop (suc (w .i)) ms) (closing (s .key) (s .new-date) (s .new-balance) ∷ rest r 0 (omega arith) (w .i) .0)) =
           rest r 0 (omega arith) (w .i) .1 ∙ rw (drop-cons ms (w .i) noMovement (more h)) in
           rw (w .place, ← upTo (w .i)) (record-there r (before r 0 (omega arith) (w .i)) q)
 
@@ -262,7 +262,7 @@ module _ {j : List ℕ} {ss : List Statement} (p : Promise j ss) (x : List ℕ) 
       abbrev s : Statement
       s = getD ss e noStatement
 
-      pub reads-there : Reads july plain (bodyIn j (e + 1)) (s ∷ [])
+      pub reads-there : Reads (codingOf plain) plain (bodyIn j (e + 1)) (s ∷ [])
       reads-there =
           let z : e + 1 - 1 ≡ e = omega arith in
           rw z at (p .reads (e + 1) (omega arith) (omega arith))
@@ -293,7 +293,7 @@ module _ {j : List ℕ} {ss : List Statement} (p : Promise j ss) (x : List ℕ) 
           }
 
       pub entered : {now′ : List ℤ}
-          → ((u : Statement) → Reads july plain (bodyIn j (e + 1)) (u ∷ []) → now′ ≡ pick (ofAccountIn x (bodyIn j (e + 1))) (filled first now (datedIn u)) now)
+          → ((u : Statement) → Reads (codingOf plain) plain (bodyIn j (e + 1)) (u ∷ []) → now′ ≡ pick (ofAccountIn x (bodyIn j (e + 1))) (filled first now (datedIn u)) now)
           → Entered k ss t first now′ (e + 1)
       entered {now′} f =
           let d : datedOf k (take (e + 1) ss) ≡ datedOf k (take e ss) ++ datedOf k (s ∷ []) =

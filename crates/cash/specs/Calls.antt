@@ -9,7 +9,7 @@ use Rattle.zones.specs.Choice.{pick}
 use Rattle.framing.specs.Files.{All, plain}
 use Rattle.grammar.specs.Statements.{Statement}
 use Rattle.grammar.specs.Files.{Reads}
-use Rattle.records.specs.July.{july}
+use Rattle.records.specs.July.{codingOf}
 use Rattle.fields.specs.declared.Valued.{Valued}
 use Rattle.journal_layout.specs.Chains.{ofAccount}
 use Rattle.journal_layout.specs.Test.{soundIn, heldOf}
@@ -37,13 +37,13 @@ Room t first ms =
 -- the movements of a body
 pub record Adding (t : List ℤ) (first : ℕ) (b : List ℕ) : Type 0 where
   pub one : Statement
-  pub reads : Reads july plain b (one ∷ [])
+  pub reads : Reads (codingOf plain) plain b (one ∷ [])
   pub room : Room t first (datedIn one)
 
 -- of one that may be the account's
 pub record Entering (t : List ℤ) (first : ℕ) (x b : List ℕ) : Type 0 where
   pub one : Statement
-  pub reads : Reads july plain b (one ∷ [])
+  pub reads : Reads (codingOf plain) plain b (one ∷ [])
   pub room : ofAccountIn x b ≡ true → Room t first (datedIn one)
 
 -- a sound journal that holds so many statements, and an account of it

@@ -10,7 +10,7 @@ ghost use Rattle.zones.specs.Choice.{pick};
 ghost use Rattle.dates.specs.Ordinals.{ordinalOf};
 ghost use Rattle.grammar.specs.Statements.{Statement};
 ghost use Rattle.grammar.specs.Files.{Reads};
-ghost use Rattle.records.specs.July.{july};
+ghost use Rattle.records.specs.July.{codingOf};
 ghost use Rattle.records.specs.Looks.{lookOf};
 ghost use Rattle.contents.specs.Heads.{recordAtOf};
 ghost use Rattle.journal_layout.specs.Test.{soundIn, heldOf};
@@ -65,7 +65,7 @@ fn place(first: u32, day: u32) -> usize
 // Every movement of a body, at its day. The last record is the 07; before it stand movements, one after another.
 fn add_body(table: &mut [i64], first: u32, body: &[u8])
     requires { ⌜ Adding (now table) first (now body) ⌝ }
-    ensures { λ _. ⌜ ((s : Statement) → Reads july plain (now (body .entry)) (s ∷ []) → now (table .exit) ≡ filled first (now (table .entry)) (datedIn s)) ⌝ }
+    ensures { λ _. ⌜ ((s : Statement) → Reads (codingOf plain) plain (now (body .entry)) (s ∷ []) → now (table .exit) ≡ filled first (now (table .entry)) (datedIn s)) ⌝ }
 {
     let mut at: usize = RECORD;
     while at + RECORD < body.len() {
@@ -80,7 +80,7 @@ fn add_body(table: &mut [i64], first: u32, body: &[u8])
 // The same where the body is the account's, else nothing.
 fn add_entry(table: &mut [i64], first: u32, key: &[u8], body: &[u8])
     requires { ⌜ Entering (now table) first (now key) (now body) ⌝ }
-    ensures { λ _. ⌜ ((s : Statement) → Reads july plain (now (body .entry)) (s ∷ []) → now (table .exit) ≡ pick (ofAccountIn (now (key .entry)) (now (body .entry))) (filled first (now (table .entry)) (datedIn s)) (now (table .entry))) ⌝ }
+    ensures { λ _. ⌜ ((s : Statement) → Reads (codingOf plain) plain (now (body .entry)) (s ∷ []) → now (table .exit) ≡ pick (ofAccountIn (now (key .entry)) (now (body .entry))) (filled first (now (table .entry)) (datedIn s)) (now (table .entry))) ⌝ }
 {
     if journal::of_account(key, body) {
         add_body(table, first, body);

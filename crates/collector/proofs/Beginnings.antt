@@ -9,7 +9,7 @@ use Rattle.packing.proofs.Packing.{kind-back}
 use Rattle.grammar.specs.Answer.{Answer, accepted, refused}
 use Rattle.grammar.specs.Statements.{Statement}
 use Rattle.grammar.specs.Files.{Reads, checkOf, statementsOf}
-use Rattle.records.specs.July.{july}
+use Rattle.records.specs.July.{codingOf}
 use Rattle.contents.specs.Earliest.{earliestOf, beginningBy, beginningOf}
 use Rattle.contents.specs.declared.Beginning.the-variants as B
 use Rattle.contents.proofs.Begun.{earliest-told}
@@ -21,20 +21,20 @@ use Rattle.collector.proofs.Bounds.{check-bounds, earliest-bounds}
 use Rattle.collector.proofs.Packing.{counted-fits, day-fits}
 
 module _ (e : ℕ) (b : List ℕ) where
-  pub earliest-refused : {n r : ℕ} → (earliestAnswer e b ≡ B.Refused n r) ↔ (checkOf july (form e) b ≡ refused n r)
+  pub earliest-refused : {n r : ℕ} → (earliestAnswer e b ≡ B.Refused n r) ↔ (checkOf (codingOf (form e)) (form e) b ≡ refused n r)
   unfolding beginningOf
-  earliest-refused {n} {r} = (λ p. by (checkOf july (form e) b) p, λ p. rw p)
+  earliest-refused {n} {r} = (λ p. by (checkOf (codingOf (form e)) (form e) b) p, λ p. rw p)
     where
-      by : (a : Answer) → beginningBy a (statementsOf july (form e) b) ≡ B.Refused n r → a ≡ refused n r
+      by : (a : Answer) → beginningBy a (statementsOf (codingOf (form e)) (form e) b) ≡ B.Refused n r → a ≡ refused n r
       by (accepted c) p = absurd (let z : _≡_ {A = ℕ} 0 1 = cc in omega arith)
       by (refused m k) p = cc
 
   -- as numbers: of kind 1, what answers either is the answer of both
   pub earliest-check : {n : ℕ} → kindIn n ≡ 1 → EarliestNumber e b n ↔ CheckNumber e b n
   unfolding beginningOf
-  earliest-check {n} k = by (checkOf july (form e) b) refl
+  earliest-check {n} k = by (checkOf (codingOf (form e)) (form e) b) refl
     where
-      by : (a : Answer) → checkOf july (form e) b ≡ a → EarliestNumber e b n ↔ CheckNumber e b n
+      by : (a : Answer) → checkOf (codingOf (form e)) (form e) b ≡ a → EarliestNumber e b n ↔ CheckNumber e b n
       by (refused m r) p = (λ g. record { answer = g .answer ∙ rw p }, λ g. record { answer = g .answer ∙ rw p })
       by (accepted c) p = (
         λ g. absurd
@@ -48,7 +48,7 @@ module _ (e : ℕ) (b : List ℕ) where
       )
 
   -- else the day is the earliest old date of the file's statements
-  pub earliest-number : {n : ℕ} {ss : List Statement} → Reads july (form e) b ss → EarliestNumber e b n → (kindIn n ≡ 0) × (packedDay n ≡ earliestOf ss)
+  pub earliest-number : {n : ℕ} {ss : List Statement} → Reads (codingOf (form e)) (form e) b ss → EarliestNumber e b n → (kindIn n ≡ 0) × (packedDay n ≡ earliestOf ss)
   earliest-number {n} {ss} r g =
       let k : earliestOf ss ≤ lastDay = rw (earliest-told r) at (earliest-bounds (form e) b) in
       let z : n ≡ earliestOf ss = g .answer ∙ ap (λ a. packedBeginning (paperBeginning a)) (earliest-told r) ∙ omega arith in

@@ -16,13 +16,13 @@ use Rattle.framing.specs.Frames.{frameBy}
 use Rattle.framing.proofs.Cuts.{length-chunks}
 use Rattle.grammar.specs.Answer as G
 use Rattle.grammar.specs.Answer.{Rule, isRuled, Counts, Answer, first, cut, whole}
-use Rattle.grammar.specs.Record.{Rec, opening, movement, complement, closing}
+use Rattle.grammar.specs.Record.{Rec, opening, movement, complement, closing, Edition}
 use Rattle.grammar.specs.Since.{sinceOpening, tally}
 use Rattle.grammar.specs.Statements.{Statement, recordsOf, allRecords, countsOf}
 use Rattle.grammar.specs.Files.{recOf, pieces, Reads, checkOf, statementsOf, rulesAfter, appliesIn, Ruled, line, multiple, many, records}
 use Rattle.grammar.specs.Parts.{sizeOf, recordsBefore, noStatement}
 use Rattle.grammar.proofs.Parts.{length-one}
-use Rattle.records.specs.July.{recordSize, mostInFile, july, july2004}
+use Rattle.records.specs.July.{recordSize, mostInFile, codingOf, editionOf}
 use Rattle.records.proofs.Theorems as T
 use Rattle.dates.specs.Days.{isDay}
 use Rattle.dates.proofs.Months.{month-days}
@@ -76,24 +76,24 @@ tally-most (complement e t ∷ rs) = let h = tally-most rs in omega arith
 tally-most (closing k d b ∷ rs) = let h = tally-most rs in omega arith
 
 module _ (f : Form) (b : List ℕ) where
-  count-pieces : length (pieces july f b) ≡ countOf recordSize f b
+  count-pieces : length (pieces (codingOf f) f b) ≡ countOf recordSize f b
   count-pieces = length-chunks (widthOf recordSize f) (countOf recordSize f b) b
 
   -- what applies to a record
   pub record Applied (k i : ℕ) : Type 0 where
     pub behind : 4 ≤ k
     pub listed-there : k ≤ lastRefusal
-    pub within : i < length (pieces july f b)
+    pub within : i < length (pieces (codingOf f) f b)
 
-  pub applied : {k i : ℕ} → appliesIn july f (pieces july f b) k i ≡ true → Applied k i
+  pub applied : {k i : ℕ} → appliesIn (codingOf f) f (pieces (codingOf f) f b) k i ≡ true → Applied k i
   unfolding appliesIn
   applied {k} {i} h =
-      let ps = pieces july f b in
-      let rules = rulesAfter july f (sinceOpening (map (recOf july) (take i ps))) (getD ps i []) in
+      let ps = pieces (codingOf f) f b in
+      let rules = rulesAfter (codingOf f) f (sinceOpening (map (recOf (codingOf f)) (take i ps))) (getD ps i []) in
       let z = listed k rules (omega arith) (and-right (ltb i (length ps)) (isRuled k rules) h) in
       record { behind = z .0; listed-there = z .1; within = ltb-true i (length ps) (and-left (ltb i (length ps)) (isRuled k rules) h) }
 
-  bounded : {a : Answer} → Ruled july f b a → CheckBounds (checkedOf a)
+  bounded : {a : Answer} → Ruled (codingOf f) f b a → CheckBounds (checkedOf a)
   bounded (line p e) = rw e (record { some = omega arith; listed = omega arith; near = omega arith })
   bounded (multiple p q e) = rw e (record { some = omega arith; listed = omega arith; near = omega arith })
   bounded (many p q r e) = rw e (record { some = omega arith; listed = omega arith; near = omega arith })
@@ -108,9 +108,9 @@ module _ (f : Form) (b : List ℕ) where
       rw e (record { some = omega arith; listed = omega arith; near = omega arith })
   bounded (records p q r (whole n i e)) =
       let few = ltb-false mostInFile (countOf recordSize f b) r in
-      let rs = map (recOf july) (pieces july f b) in
+      let rs = map (recOf (codingOf f)) (pieces (codingOf f) f b) in
       let m = tally-most rs in
-      let l = length-map (pieces july f b) (recOf july) in
+      let l = length-map (pieces (codingOf f) f b) (recOf (codingOf f)) in
       rw e
       (record {
         few-statements = omega (arith, count-pieces);
@@ -118,7 +118,7 @@ module _ (f : Form) (b : List ℕ) where
         few-complements = omega (arith, count-pieces);
       })
 
-  pub check-bounds : CheckBounds (checkedOf (checkOf july f b))
+  pub check-bounds : CheckBounds (checkedOf (checkOf (codingOf f) f b))
   check-bounds = bounded (T.ruled f b)
 
 -- ---- opening
@@ -133,38 +133,38 @@ opening-bounds j = by (isLength (length j))
 -- ---- the delivery
 
 -- what is left of a file: its statements and records, with those behind, are no more than a file may have
-record Left (hs : List Statement) (behind stored held : ℕ) (ss : List Statement) : Type 0 where
+record Left (E : Edition) (hs : List Statement) (behind stored held : ℕ) (ss : List Statement) : Type 0 where
   pub entries : length hs ≤ mostEntries
   pub stores : stored ≤ length hs
   pub statements : held + length ss ≤ mostInFile
-  pub rows : behind + length (allRecords july2004 ss) ≤ mostInFile
+  pub rows : behind + length (allRecords E ss) ≤ mostInFile
 
-size-first : (s : Statement) (ss : List Statement) → length (allRecords july2004 (s ∷ ss)) ≡ sizeOf s + length (allRecords july2004 ss)
+size-first : (E : Edition) (s : Statement) (ss : List Statement) → length (allRecords E (s ∷ ss)) ≡ sizeOf s + length (allRecords E ss)
 unfolding allRecords
-size-first s ss = omega (arith, length-append (recordsOf july2004 s) (allRecords july2004 ss), length-one july2004 s)
+size-first E s ss = omega (arith, length-append (recordsOf E s) (allRecords E ss), length-one E s)
 
-run-bounds : (n : ℕ) (hs : List Statement) (behind stored held : ℕ) (ss : List Statement) → Left hs behind stored held ss
+run-bounds : (E : Edition) (n : ℕ) (hs : List Statement) (behind stored held : ℕ) (ss : List Statement) → Left E hs behind stored held ss
     → DeliveryBounds (answerOf (run n hs behind stored held ss))
 unfolding run verdictOf
-run-bounds n hs behind stored held [] l =
+run-bounds E n hs behind stored held [] l =
     let e = l .entries in
     let a = l .stores in
     let h = l .statements in
     record { few-stored = omega arith; few-held = omega arith }
-run-bounds n hs behind stored held (s ∷ ss) l =
+run-bounds E n hs behind stored held (s ∷ ss) l =
     let e = l .entries in
     let a = l .stores in
     let h = l .statements in
     let r = l .rows in
-    let z = size-first s ss in
+    let z = size-first E s ss in
     by (run n hs (behind + sizeOf s) stored (held + 1) ss) (run n (hs ++ (s ∷ [])) (behind + sizeOf s) (stored + 1) held ss)
     (isHeld (judgementOf s hs)) (followsBy (judgementOf s hs) (s .old-date) (s .old-balance)) (ltb (length hs) mostEntries)
     (leb (sizeOf s) (n - linesOf hs)) refl
-    (run-bounds n hs (behind + sizeOf s) stored (held + 1) ss
+    (run-bounds E n hs (behind + sizeOf s) stored (held + 1) ss
     (record { entries = omega arith; stores = omega arith; statements = omega arith; rows = omega arith }))
     (λ room.
     let y = length-append hs (s ∷ []) in
-    run-bounds n (hs ++ (s ∷ [])) (behind + sizeOf s) (stored + 1) held ss
+    run-bounds E n (hs ++ (s ∷ [])) (behind + sizeOf s) (stored + 1) held ss
     (record { entries = omega arith; stores = omega arith; statements = omega arith; rows = omega arith }))
     (omega arith)
   where
@@ -180,16 +180,16 @@ run-bounds n hs behind stored held (s ∷ ss) l =
     by H S false false v w e h s r = record { some = omega arith; listed = omega arith; near = r }
 
 -- an accepted file has no more statements than records
-statements-few : (f : Form) (b : List ℕ) {c : Counts} → checkOf july f b ≡ G.accepted c → length (statementsOf july f b) ≤ mostInFile
+statements-few : (f : Form) (b : List ℕ) {c : Counts} → checkOf (codingOf f) f b ≡ G.accepted c → length (statementsOf (codingOf f) f b) ≤ mostInFile
 statements-few f b e =
-    let z : CheckBounds (checkedOf (G.accepted (countsOf (statementsOf july f b)))) = rw (T.counts (T.reads f b e)) at (check-bounds f b) in
+    let z : CheckBounds (checkedOf (G.accepted (countsOf (statementsOf (codingOf f) f b)))) = rw (T.counts (T.reads f b e)) at (check-bounds f b) in
     z .few-statements
 
 pub delivery-bounds : (j : List ℕ) (f : Form) (b : List ℕ) → DeliveryBounds (answerOf (outcomeOf j f b))
 unfolding outcomeOf
-delivery-bounds j f b = by (soundIn j) refl (checkOf july f b) refl
+delivery-bounds j f b = by (soundIn j) refl (checkOf (codingOf f) f b) refl
   where
-    by : (t : Bool) → soundIn j ≡ t → (a : Answer) → checkOf july f b ≡ a → DeliveryBounds (answerOf (outcomeOf j f b))
+    by : (t : Bool) → soundIn j ≡ t → (a : Answer) → checkOf (codingOf f) f b ≡ a → DeliveryBounds (answerOf (outcomeOf j f b))
     by false p a q = rw p (record { some = omega arith; listed = omega arith; near = omega arith })
     by true p (G.refused n r) q = let z : RefusalBounds n r = rw q at (check-bounds f b) in rw (p, q) z
     by true p (G.accepted c) q =
@@ -198,7 +198,7 @@ delivery-bounds j f b = by (soundIn j) refl (checkOf july f b) refl
         let s = statements-few f b q in
         let r = T.reads f b q .few in
         rw (p, q)
-        (run-bounds (linesIn j) (heldOf j) 0 0 0 (statementsOf july f b)
+        (run-bounds (editionOf f) (linesIn j) (heldOf j) 0 0 0 (statementsOf (codingOf f) f b)
         (record { entries = few; stores = omega arith; statements = omega arith; rows = omega arith }))
 
 -- ---- an entry
@@ -316,15 +316,15 @@ day-most k h =
 
 pub earliest-bounds : (f : Form) (b : List ℕ) → BeginningBounds (beginningOf f b)
 unfolding beginningOf
-earliest-bounds f b = by (checkOf july f b) refl
+earliest-bounds f b = by (checkOf (codingOf f) f b) refl
   where
-    early : {ss : List Statement} → Reads july f b ss → earliestOf ss ≤ lastDay
+    early : {ss : List Statement} → Reads (codingOf f) f b ss → earliestOf ss ≤ lastDay
     early {ss} r = some (length ss) refl
       where
         some : (n : ℕ) → length ss ≡ n → earliestOf ss ≤ lastDay
         some zero l = let z = earliest-none r .1 l in omega arith
         some (suc n) l = day-most (earliestOf ss) (earliest-day r (omega arith))
 
-    by : (a : Answer) → checkOf july f b ≡ a → BeginningBounds (beginningBy a (statementsOf july f b))
+    by : (a : Answer) → checkOf (codingOf f) f b ≡ a → BeginningBounds (beginningBy a (statementsOf (codingOf f) f b))
     by (G.accepted c) p = early (T.reads f b p)
     by (G.refused n r) p = let z : RefusalBounds n r = rw p at (check-bounds f b) in z

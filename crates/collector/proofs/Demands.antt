@@ -6,7 +6,7 @@ use Rattle.framing.specs.declared.Form.{Form}
 use Rattle.framing.specs.Files.{lineEnd}
 use Rattle.grammar.specs.Files.{checkOf, Ruled}
 use Rattle.grammar.specs.Demand.{Demand2}
-use Rattle.records.specs.July.{july, codingOf}
+use Rattle.records.specs.July.{codingOf}
 use Rattle.statements.specs.declared.Checked.{Checked}
 use Rattle.statements.specs.Answers.{checkedOf, answerOf, paperCheck, paperOf, checkedBy, Check}
 use Rattle.statements.proofs.Paper.{Numbered, checks, paper-apart}
@@ -27,7 +27,7 @@ use Rattle.collector.proofs.Packing.{check-numbered, delivery-numbered,
 -- ---- the numbers
 
 -- the rule of refusal
-pub number-ruled : {e : ℕ} {b : List ℕ} {n : ℕ} → CheckNumber e b n → Ruled july (form e) b (answerOf (checkedBy (paperCheckIn n)))
+pub number-ruled : {e : ℕ} {b : List ℕ} {n : ℕ} → CheckNumber e b n → Ruled (codingOf (form e)) (form e) b (answerOf (checkedBy (paperCheckIn n)))
 number-ruled g = check-ruled (checks (check-unpacked g))
 
 pub number-demand2 : (check : ℕ → List ℕ → ℕ) → ((e : ℕ) (b : List ℕ) → CheckNumber e b (check e b))
@@ -45,9 +45,9 @@ number-demand3 opening opened delivery delivered o d =
 
 -- ---- the paper's record alone: an answer that has it, and whose refusal has a number, meets the contract
 
-pub check-recorded : {f : Form} {b : List ℕ} {r : Checked} → Numbered r → paperCheck r ≡ paperOf (checkOf july f b) → Check f b r
+pub check-recorded : {f : Form} {b : List ℕ} {r : Checked} → Numbered r → paperCheck r ≡ paperOf (checkOf (codingOf f) f b) → Check f b r
 check-recorded {f} {b} {r} k p =
-    let a = checkedOf (checkOf july f b) in
+    let a = checkedOf (checkOf (codingOf f) f b) in
     checks (paper-apart {r = r} {q = a} k (check-numbered a (check-bounds f b)) (p ∙ sym (checks {f = f} {b = b} {r = a} refl .paper)))
 
 pub deliver-recorded : {j : List ℕ} {f : Form} {b : List ℕ} {r : Delivery} {j′ : List ℕ} → J.Numbered r → paperDelivery r ≡ paperOutcome (outcomeOf j f b) → j′ ≡ contentOf j f b

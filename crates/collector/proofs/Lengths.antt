@@ -17,7 +17,7 @@ use Rattle.framing.proofs.Framing.{frame-length}
 use Rattle.grammar.specs.Answer.{Answer, refused, first, cut, whole}
 use Rattle.grammar.specs.Files.{checkOf, Ruled, line, multiple, many, records}
 use Rattle.grammar.proofs.Tests.{clash}
-use Rattle.records.specs.July.{recordSize, mostInFile, july}
+use Rattle.records.specs.July.{recordSize, mostInFile, codingOf}
 use Rattle.records.proofs.Theorems.{ruled}
 use Rattle.statements.specs.Answers.{checkedOf, paperCheck}
 use Rattle.statements.proofs.Framed.{framed}
@@ -30,7 +30,7 @@ module _ (e : ℕ) (b : List ℕ) where
   as-file : {r : Frame} → r ≡ lengthAnswer e (length b) → r ≡ frameOf (form e) recordSize mostInFile b
   as-file p = p ∙ frame-length (form e) recordSize mostInFile b
 
-  pub length-first : {k : ℕ} → F.Refused k ≡ lengthAnswer e (length b) → checkOf july (form e) b ≡ refused k 0
+  pub length-first : {k : ℕ} → F.Refused k ≡ lengthAnswer e (length b) → checkOf (codingOf (form e)) (form e) b ≡ refused k 0
   length-first {k} p = framed (form e) b (F.Refused k) (as-file p)
 
   -- where the length has a number of records, none of 1 to 3 applies
@@ -51,13 +51,13 @@ module _ (e : ℕ) (b : List ℕ) where
       by v m false k false o true f q = absurd (let i : _≡_ {A = ℕ} 0 1 = cc in omega arith)
       by v m false k false o false f q = record { known = k; even = o; few = f }
 
-  pub length-passed : {w n k r : ℕ} → F.Records w n ≡ lengthAnswer e (length b) → checkOf july (form e) b ≡ refused k r → 4 ≤ k
+  pub length-passed : {w n k r : ℕ} → F.Records w n ≡ lengthAnswer e (length b) → checkOf (codingOf (form e)) (form e) b ≡ refused k r → 4 ≤ k
   length-passed {k = k} {r = r} p q = by (ruled (form e) b) q
     where
       g : Passed
       g = passed (as-file p)
 
-      by : {a : Answer} → Ruled july (form e) b a → a ≡ refused k r → 4 ≤ k
+      by : {a : Answer} → Ruled (codingOf (form e)) (form e) b a → a ≡ refused k r → 4 ≤ k
       by (line x o) h = absurd (clash x (g .known))
       by (multiple x y o) h = absurd (clash y (g .even))
       by (many x y z o) h = absurd (clash z (g .few))

@@ -10,7 +10,7 @@ use Rattle.framing.specs.declared.Frame.{Frame}
 use Rattle.framing.specs.Frames.{frameBy}
 use Rattle.framing.specs.Answers.{paperFrame}
 use Rattle.grammar.specs.Files.{checkOf}
-use Rattle.records.specs.July.{recordSize, mostInFile, july}
+use Rattle.records.specs.July.{recordSize, mostInFile, codingOf}
 use Rattle.statements.specs.declared.Checked.{Checked}
 use Rattle.statements.specs.Answers.{checkedOf, paperCheck}
 use Rattle.readers.specs.declared.Place.{Place}
@@ -36,7 +36,7 @@ form e = record { «line_end» = e }
 
 -- the answers whose paper's records are packed; of an entry it is `entryPlaceOf`, of what is used `usageOf`
 abbrev pub checkAnswer : (e : ℕ) → List ℕ → Checked
-checkAnswer e b = checkedOf (checkOf july (form e) b)
+checkAnswer e b = checkedOf (checkOf (codingOf (form e)) (form e) b)
 
 abbrev pub openAnswer : List ℕ → Opening
 openAnswer j = pick (isLength (length j)) Opened (Refused 21 0)

@@ -13,7 +13,7 @@ use Rattle.grammar.specs.Answer.{Answer, accepted}
 use Rattle.grammar.specs.Statements.{Statement}
 use Rattle.grammar.specs.Files.{canonical, Reads, Writable, statementsOf, checkOf}
 use Rattle.grammar.specs.Parts.{noStatement}
-use Rattle.records.specs.July.{recordSize, july}
+use Rattle.records.specs.July.{recordSize, july, codingOf}
 use Rattle.records.proofs.Theorems.{reads, part-reads, check-canonical, statements-canonical}
 use Rattle.bodies.proofs.Single.{reads-writable}
 use Rattle.entries.specs.Entries.{tableSize}
@@ -26,7 +26,7 @@ use Rattle.journal.specs.Arrivals.{arrivals}
 use Rattle.journal.proofs.Runs.{Kept, kept, ran, kept-journal, kept-length}
 
 -- each statement of an accepted file can be written
-pub file-writable : {f : Form} {b : List ℕ} {ss : List Statement} → Reads july f b ss → All (Writable july) ss
+pub file-writable : {f : Form} {b : List ℕ} {ss : List Statement} → Reads (codingOf f) f b ss → All (Writable july) ss
 file-writable {f} {b} {ss} r = each ss (λ i h. reads-writable (part-reads r i h))
   where
     each : (ts : List Statement) → ((i : ℕ) → i < length ts → Writable july (getD ts i noStatement)) → All (Writable july) ts
@@ -34,11 +34,11 @@ file-writable {f} {b} {ss} r = each ss (λ i h. reads-writable (part-reads r i h
     each (t ∷ ts) p = (p 0 (omega arith), each ts (λ i h. p (suc i) (omega arith)))
 
 -- EITHER ZERO: a file, and the same with each record as the writer writes it, get the same answer and leave the same journal, whatever is lent
-pub outcome-canonical : (j : List ℕ) (f : Form) (b : List ℕ) → outcomeOf j f (canonical july f b) ≡ outcomeOf j f b
+pub outcome-canonical : (j : List ℕ) (f : Form) (b : List ℕ) → outcomeOf j f (canonical (codingOf f) f b) ≡ outcomeOf j f b
 unfolding outcomeOf
 outcome-canonical j f b = rw (check-canonical f b, statements-canonical f b)
 
-pub content-canonical : (j : List ℕ) (f : Form) (b : List ℕ) → contentOf j f (canonical july f b) ≡ contentOf j f b
+pub content-canonical : (j : List ℕ) (f : Form) (b : List ℕ) → contentOf j f (canonical (codingOf f) f b) ≡ contentOf j f b
 unfolding contentOf
 content-canonical j f b = ap (contentBy j) (outcome-canonical j f b)
 
@@ -49,28 +49,28 @@ lines-are g = let l = journal-length g in omega arith
 -- what a delivery to a journal of H comes to
 module _ {j : List ℕ} {H : List Statement} (g : Journal j H) (f : Form) (b : List ℕ) where
   -- its list, as the journal has it
-  pub outcome-by : outcomeOf j f b ≡ outcomeBy (checkOf july f b) (run (linesIn j) H 0 0 0 (statementsOf july f b))
+  pub outcome-by : outcomeOf j f b ≡ outcomeBy (checkOf (codingOf f) f b) (run (linesIn j) H 0 0 0 (statementsOf (codingOf f) f b))
   unfolding outcomeOf
   outcome-by = rw (journal-sound g, journal-list g)
 
   -- a delivery without a refusal
   pub record Stored (L : List Statement) (x y : ℕ) : Type 0 where
-    pub read : Reads july f b (statementsOf july f b)
-    pub list : L ≡ H ++ arrivals H (statementsOf july f b)
-    pub stores : x ≡ length (arrivals H (statementsOf july f b))
-    pub all : x + y ≡ length (statementsOf july f b)
+    pub read : Reads (codingOf f) f b (statementsOf (codingOf f) f b)
+    pub list : L ≡ H ++ arrivals H (statementsOf (codingOf f) f b)
+    pub stores : x ≡ length (arrivals H (statementsOf (codingOf f) f b))
+    pub all : x + y ≡ length (statementsOf (codingOf f) f b)
     pub journal : Journal (contentOf j f b) L
     pub long : length (contentOf j f b) ≡ length j
 
   pub stored : {L : List Statement} {x y : ℕ} → outcomeOf j f b ≡ delivered L x y → Stored L x y
   unfolding contentOf
-  stored {L} {x} {y} e = by (checkOf july f b) refl (sym outcome-by ∙ e)
+  stored {L} {x} {y} e = by (checkOf (codingOf f) f b) refl (sym outcome-by ∙ e)
     where
-      by : (a : Answer) → checkOf july f b ≡ a → outcomeBy a (run (linesIn j) H 0 0 0 (statementsOf july f b)) ≡ delivered L x y → Stored L x y
+      by : (a : Answer) → checkOf (codingOf f) f b ≡ a → outcomeBy a (run (linesIn j) H 0 0 0 (statementsOf (codingOf f) f b)) ≡ delivered L x y → Stored L x y
       by (accepted c) q o =
           let r = reads f b q in
           let k : Kept (linesIn j) H = rw (lines-are g) (kept (g .kept)) in
-          let m = ran (linesIn j) H 0 0 0 (statementsOf july f b) k (file-writable r) o in
+          let m = ran (linesIn j) H 0 0 0 (statementsOf (codingOf f) f b) k (file-writable r) o in
           let l : linesIn j ≤ mostLines = rw (lines-are g) (g .most) in
           let s = m .stores in
           let a = m .all in

@@ -18,7 +18,7 @@ use Rattle.grammar.specs.Answer.{Answer, accepted}
 use Rattle.grammar.specs.Statements.{Statement}
 use Rattle.grammar.specs.Files.{Reads, Writable, statementsOf, checkOf}
 use Rattle.grammar.specs.Parts.{sizeOf, recordsBefore, noStatement}
-use Rattle.records.specs.July.{recordSize, july}
+use Rattle.records.specs.July.{recordSize, july, codingOf}
 use Rattle.records.proofs.Theorems.{reads}
 use Rattle.statements.specs.declared.Checked.the-variants as C
 use Rattle.statements.specs.Answers.{checkedOf}
@@ -99,7 +99,7 @@ spans-set n places ends x y p q =
     let c = getD-there ends n y q in
     rw (add-one n, spans-snoc n 0 (set places n x) (set ends n y), spans-kept n 0 n places ends x y (omega arith), zero-add n, a, c)
 
-reading-snoc : (f : Form) (hs : List (List ℕ)) (P : List Statement) (h : List ℕ) (s : Statement) → Reading f hs P → Reads july f h (s ∷ [])
+reading-snoc : (f : Form) (hs : List (List ℕ)) (P : List Statement) (h : List ℕ) (s : Statement) → Reading f hs P → Reads (codingOf f) f h (s ∷ [])
     → Reading f (hs ++ (h ∷ [])) (P ++ (s ∷ []))
 reading-snoc f [] [] h s r q = (q, tt)
 reading-snoc f [] (t ∷ P) h s r q = absurd r
@@ -123,7 +123,7 @@ inside-snoc {n} {places} {ends} {b} {x} {y} i p q l m =
     within k h false e = let c = eqb-false k n e in rw (getD-other ends k n y (omega arith)) (i .within k (omega arith))
 
 parts-read : (f : Form) (n : ℕ) (places ends b : List ℕ) (x y : ℕ) (P : List Statement) (s : Statement) → Reading f (partsFrom n 0 places ends b) P
-    → n < length places → n < length ends → Reads july f (take (y - x) (drop x b)) (s ∷ []) → Reading f (partsFrom (n + 1) 0 (set places n x) (set ends n y) b) (P ++ (s ∷ []))
+    → n < length places → n < length ends → Reads (codingOf f) f (take (y - x) (drop x b)) (s ∷ []) → Reading f (partsFrom (n + 1) 0 (set places n x) (set ends n y) b) (P ++ (s ∷ []))
 parts-read f n places ends b x y P s r p q h =
     let a = getD-there places n x p in
     let c = getD-there ends n y q in
@@ -166,8 +166,8 @@ refused-planned {j} {f} {b} o =
 pub record Dry (j : List ℕ) (f : Form) (b places ends : List ℕ) (count taken held at : ℕ) : Type 0 where
   pub i : ℕ
   pub P : List Statement
-  pub upto : i ≤ length (statementsOf july f b)
-  pub place : at ≡ recordsBefore i (statementsOf july f b) * widthOf recordSize f
+  pub upto : i ≤ length (statementsOf (codingOf f) f b)
+  pub place : at ≡ recordsBefore i (statementsOf (codingOf f) f b) * widthOf recordSize f
   pub planned : length P ≡ count
   pub named : (length places ≡ mostEntries) × (length ends ≡ mostEntries)
   pub few : length (heldOf j) + count ≤ mostEntries
@@ -178,19 +178,19 @@ pub record Dry (j : List ℕ) (f : Form) (b places ends : List ℕ) (count taken
   pub roomy : Roomy (length (heldOf j)) (linesOf (heldOf j)) (length j) P
   pub helds : held ≤ at
   pub short : length b ≤ 2440000
-  pub rest : run (linesIn j) (heldOf j ++ P) (recordsBefore i (statementsOf july f b)) count held (drop i (statementsOf july f b))
-      ≡ run (linesIn j) (heldOf j) 0 0 0 (statementsOf july f b)
-  pub new : P ++ arrivals (heldOf j ++ P) (drop i (statementsOf july f b)) ≡ arrivals (heldOf j) (statementsOf july f b)
+  pub rest : run (linesIn j) (heldOf j ++ P) (recordsBefore i (statementsOf (codingOf f) f b)) count held (drop i (statementsOf (codingOf f) f b))
+      ≡ run (linesIn j) (heldOf j) 0 0 0 (statementsOf (codingOf f) f b)
+  pub new : P ++ arrivals (heldOf j ++ P) (drop i (statementsOf (codingOf f) f b)) ≡ arrivals (heldOf j) (statementsOf (codingOf f) f b)
   pub spans : spansFrom count 0 places ends
-      ++ spansOf (widthOf recordSize f) (heldOf j ++ P) (recordsBefore i (statementsOf july f b)) (drop i (statementsOf july f b))
-      ≡ spansOf (widthOf recordSize f) (heldOf j) 0 (statementsOf july f b)
+      ++ spansOf (widthOf recordSize f) (heldOf j ++ P) (recordsBefore i (statementsOf (codingOf f) f b)) (drop i (statementsOf (codingOf f) f b))
+      ≡ spansOf (widthOf recordSize f) (heldOf j) 0 (statementsOf (codingOf f) f b)
 
 module _ {j : List ℕ} {f : Form} {b : List ℕ} (given : Deliverable j f b) where
   abbrev H : List Statement
   H = heldOf j
 
   abbrev S : List Statement
-  S = statementsOf july f b
+  S = statementsOf (codingOf f) f b
 
   abbrev n : ℕ
   n = linesIn j
@@ -201,7 +201,7 @@ module _ {j : List ℕ} {f : Form} {b : List ℕ} (given : Deliverable j f b) wh
   journal : Journal j H
   journal = sound-journal j (given .sound)
 
-  file : Reads july f b S
+  file : Reads (codingOf f) f b S
   file = reads f b (given .yes)
 
   outcome : outcomeOf j f b ≡ run n H 0 0 0 S
@@ -426,17 +426,17 @@ module _ (j : List ℕ) (f : Form) (b : List ℕ) {t : Bool} (p : t ≡ soundIn 
   unfolding outcomeOf
   not-sound h q e = rw (e, q) (refused-planned (rw (← p, not-true t h)))
 
-  pub not-read : {n k : ℕ} {q : Refusal} {r : Plan} → not t ≡ false → C.Refused n k ≡ checkedOf (checkOf july f b) → q ≡ refusal n k → r ≡ refusedPlan q → Planned j f b r
+  pub not-read : {n k : ℕ} {q : Refusal} {r : Plan} → not t ≡ false → C.Refused n k ≡ checkedOf (checkOf (codingOf f) f b) → q ≡ refusal n k → r ≡ refusedPlan q → Planned j f b r
   unfolding outcomeOf
-  not-read {n} {k} h c q e = rw (e, q) (refused-planned (rw (← p, not-false t h) (by (checkOf july f b) c)))
+  not-read {n} {k} h c q e = rw (e, q) (refused-planned (rw (← p, not-false t h) (by (checkOf (codingOf f) f b) c)))
     where
-      by : (a : Answer) → C.Refused n k ≡ checkedOf a → outcomeBy a (run (linesIn j) (heldOf j) 0 0 0 (statementsOf july f b)) ≡ refused (refusal n k)
+      by : (a : Answer) → C.Refused n k ≡ checkedOf a → outcomeBy a (run (linesIn j) (heldOf j) 0 0 0 (statementsOf (codingOf f) f b)) ≡ refused (refusal n k)
       by (accepted x) q = absurd (let z : _≡_ {A = ℕ} 0 1 = cc in omega arith)
       by (G.refused x y) q = let z : x ≡ n = cc in let w : y ≡ k = cc in rw (z, w)
 
-  pub deliverable : {s m c : ℕ} → not t ≡ false → C.Accepted s m c ≡ checkedOf (checkOf july f b) → Deliverable j f b
-  deliverable {s} {m} {c} h e = by (checkOf july f b) refl e
+  pub deliverable : {s m c : ℕ} → not t ≡ false → C.Accepted s m c ≡ checkedOf (checkOf (codingOf f) f b) → Deliverable j f b
+  deliverable {s} {m} {c} h e = by (checkOf (codingOf f) f b) refl e
     where
-      by : (a : Answer) → checkOf july f b ≡ a → C.Accepted s m c ≡ checkedOf a → Deliverable j f b
+      by : (a : Answer) → checkOf (codingOf f) f b ≡ a → C.Accepted s m c ≡ checkedOf a → Deliverable j f b
       by (accepted x) q g = record { sound = sym p ∙ not-false t h; counts = x; yes = q }
       by (G.refused x y) q g = absurd (let z : _≡_ {A = ℕ} 0 1 = cc in omega arith)

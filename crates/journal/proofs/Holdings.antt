@@ -13,7 +13,7 @@ use Rattle.grammar.specs.Record.{sameKey}
 use Rattle.grammar.specs.Statements.{Statement}
 use Rattle.grammar.specs.Files.{Reads}
 use Rattle.grammar.specs.Parts.{noStatement}
-use Rattle.records.specs.July.{recordSize, july}
+use Rattle.records.specs.July.{recordSize, codingOf}
 use Rattle.contents.specs.Heads.{recordAtOf}
 use Rattle.bodies.specs.Bodies.{bodyOf}
 use Rattle.bodies.proofs.Single.{body-reads}
@@ -84,7 +84,7 @@ module _ (j : List ℕ) (h : soundIn j ≡ true) where
   sound-body e p q = rw (ne-eqb e 0 (λ z. omega arith)) (there-body (journal-held journal .holding) (e - 1) (omega arith))
 
   -- and a file of exactly it
-  pub sound-reads : (e : ℕ) → 0 < e → e ≤ length ss → Reads july plain (bodyIn j e) (getD ss (e - 1) noStatement ∷ [])
+  pub sound-reads : (e : ℕ) → 0 < e → e ≤ length ss → Reads (codingOf plain) plain (bodyIn j e) (getD ss (e - 1) noStatement ∷ [])
   sound-reads e p q = rw (sound-body e p q) (body-reads (there-alone (journal-held journal .holding) (e - 1) (omega arith)))
 
   -- its account is the statement's

@@ -18,7 +18,7 @@ use Rattle.grammar.specs.Record.{sameKey}
 use Rattle.grammar.specs.Statements.{Statement}
 use Rattle.grammar.specs.Files.{Reads, Writable, statementsOf, checkOf}
 use Rattle.grammar.specs.Parts.{noStatement}
-use Rattle.records.specs.July.{recordSize, july}
+use Rattle.records.specs.July.{recordSize, july, codingOf}
 use Rattle.contents.specs.Heads.{recordAtOf}
 use Rattle.bodies.specs.Bodies.{bodyOf}
 use Rattle.bodies.proofs.Single.{body-reads}
@@ -62,7 +62,7 @@ module _ (x o : List ℕ) where
   account-tested l p q r s = rw (p, q, r, s) (sym (rw (eq-eqb (length o) recordSize l, getD-one o 19, getD-one x 13)))
 
 -- the account of a statement's 01
-pub account-value : (x : List ℕ) {f : Form} {h : List ℕ} {s : Statement} → Reads july f h (s ∷ []) → isAccount x (recordAtOf h 0) ≡ sameKey (s .key) (keyFrom x)
+pub account-value : (x : List ℕ) {f : Form} {h : List ℕ} {s : Statement} → Reads (codingOf f) f h (s ∷ []) → isAccount x (recordAtOf h 0) ≡ sameKey (s .key) (keyFrom x)
 unfolding isAccount
 account-value x {f} {h} r = rw (eq-eqb (length (recordAtOf h 0)) recordSize (opening-whole r), opening-there r .key)
 
@@ -167,7 +167,7 @@ module _ {j : List ℕ} {f : Form} {b places ends : List ℕ} {count held : ℕ}
   H = heldOf j
 
   abbrev S : List Statement
-  S = statementsOf july f b
+  S = statementsOf (codingOf f) f b
 
   abbrev found : Found
   found = pick (eqb (length x) keySize) (newestAmong f (keyFrom x) H S) (Refused 25 0)
@@ -240,7 +240,7 @@ module _ {j : List ℕ} {f : Form} {b : List ℕ} {plan : Plan} (g : Planned j f
   unfolding outcomeOf
   is-sound {s} {h} q = by (soundIn j) q
     where
-      by : (t : Bool) → answerOf (pick t (outcomeBy (checkOf july f b) (run (linesIn j) (heldOf j) 0 0 0 (statementsOf july f b))) (refused (refusal 21 0))) ≡ Done s h → t ≡ true
+      by : (t : Bool) → answerOf (pick t (outcomeBy (checkOf (codingOf f) f b) (run (linesIn j) (heldOf j) 0 0 0 (statementsOf (codingOf f) f b))) (refused (refusal 21 0))) ≡ Done s h → t ≡ true
       by true q = refl
       by false q = absurd (let z : _≡_ {A = ℕ} 0 1 = cc in omega arith)
 
@@ -261,7 +261,7 @@ module _ {j : List ℕ} {f : Form} {b : List ℕ} {plan : Plan} (g : Planned j f
       }
 
   pub found-planned : {s h : ℕ} {r : Found} → plan .answer ≡ Done s h
-      → Finds (pick (eqb (length x) keySize) (newestAmong f (keyFrom x) (heldOf j) (statementsOf july f b)) (Refused 25 0)) j b r → Finds (newestOf j f b x) j b r
+      → Finds (pick (eqb (length x) keySize) (newestAmong f (keyFrom x) (heldOf j) (statementsOf (codingOf f) f b)) (Refused 25 0)) j b r → Finds (newestOf j f b x) j b r
   unfolding newestOf
   found-planned {s} {h} e r = record { same = r .same ∙ by (outcomeOf j f b) (sym (g .answer) ∙ e); lies = r .lies }
     where

@@ -12,7 +12,7 @@ use Rattle.framing.specs.Files.{lineEnd, widthOf}
 use Rattle.grammar.specs.Statements.{Statement}
 use Rattle.grammar.specs.Files.{statementsOf}
 use Rattle.grammar.specs.Parts.{sizeOf, recordsBefore, noStatement}
-use Rattle.records.specs.July.{recordSize, july}
+use Rattle.records.specs.July.{recordSize, codingOf}
 use Rattle.entries.specs.Entries.{tableSize}
 use Rattle.journal_layout.specs.Layout.{Journal}
 use Rattle.journal_layout.proofs.Exact.{journal-sound, journal-list}
@@ -55,13 +55,13 @@ module _ {j : List ℕ} {f : Form} {b x : List ℕ} {r : Found} (a : NewestPlace
     newest-no-key l = ap paperNewest (a .answer) ∙ rw (o, ne-eqb (length x) keySize l)
 
     module _ (l : length x ≡ keySize) where
-      among : r ≡ newestAmong f (keyFrom x) hs (statementsOf july f b)
+      among : r ≡ newestAmong f (keyFrom x) hs (statementsOf (codingOf f) f b)
       unfolding newestOf
       among = a .answer ∙ rw (o, eq-eqb (length x) keySize l, journal-list g)
 
       -- the account's last among those of the file that are new, from 1, 0 where there is none; and its last held
       abbrev pub sent : ℕ
-      sent = lastIndex (keyFrom x) 0 0 (arrivals hs (statementsOf july f b))
+      sent = lastIndex (keyFrom x) 0 0 (arrivals hs (statementsOf (codingOf f) f b))
 
       abbrev pub held : ℕ
       held = lastIndex (keyFrom x) 0 0 hs
@@ -72,8 +72,8 @@ module _ {j : List ℕ} {f : Form} {b x : List ℕ} {r : Found} (a : NewestPlace
             number = 0;
             at = 0;
             source = 2;
-            first = getD (spansOf (widthOf recordSize f) hs 0 (statementsOf july f b)) (sent - 1) (span 0 0) .first;
-            len = getD (spansOf (widthOf recordSize f) hs 0 (statementsOf july f b)) (sent - 1) (span 0 0) .len;
+            first = getD (spansOf (widthOf recordSize f) hs 0 (statementsOf (codingOf f) f b)) (sent - 1) (span 0 0) .first;
+            len = getD (spansOf (widthOf recordSize f) hs 0 (statementsOf (codingOf f) f b)) (sent - 1) (span 0 0) .len;
             line-end = lineEnd f;
           }
       unfolding newestAmong

@@ -16,7 +16,7 @@ use Rattle.grammar.specs.Record.{sameKey}
 use Rattle.grammar.specs.Statements.{Movement, Statement, plus}
 use Rattle.grammar.specs.Files.{canonical, relined, Reads, Writable, statementsOf}
 use Rattle.grammar.specs.Parts.{sizeOf}
-use Rattle.records.specs.July.{july}
+use Rattle.records.specs.July.{july, codingOf}
 use Rattle.records.proofs.Theorems.{counts, reads, unique, reads-canonical, relined-reads, relined-own}
 use Rattle.bodies.specs.Bodies.{bodyOf, identical}
 use Rattle.journal_layout.specs.Chains.{heldAmong, Chained, ofAccount}
@@ -52,7 +52,7 @@ held-from : (D : Deliver) (j : List ℕ) (H : List Statement) (es : List Event) 
 unfolding heldFrom accepted arrivals
 held-from D j H [] = sym (append-nil H)
 held-from D j H (deliver f b ∷ es) =
-    let A = acceptedBy (D j f b .answer) (statementsOf july f b) in
+    let A = acceptedBy (D j f b .answer) (statementsOf (codingOf f) f b) in
     let B = accepted D (D j f b .journal) es in
     rw (arrivals-append H A B, ← append-assoc H (arrivals H A) (arrivals (H ++ arrivals H A) B)) (held-from D (D j f b .journal) (H ++ arrivals H A) es)
 
@@ -73,11 +73,11 @@ ours j f b = record { answer = answerOf (outcomeOf j f b); journal = contentOf j
 
 -- one delivery: what it adds
 one-more : {j : List ℕ} {H : List Statement} → Journal j H → (f : Form) (b : List ℕ)
-    → Journal (contentOf j f b) (H ++ arrivals H (acceptedBy (answerOf (outcomeOf j f b)) (statementsOf july f b)))
+    → Journal (contentOf j f b) (H ++ arrivals H (acceptedBy (answerOf (outcomeOf j f b)) (statementsOf (codingOf f) f b)))
 unfolding arrivals
 one-more {j} {H} g f b = by (outcomeOf j f b) refl
   where
-    by : (o : Outcome) → outcomeOf j f b ≡ o → Journal (contentOf j f b) (H ++ arrivals H (acceptedBy (answerOf o) (statementsOf july f b)))
+    by : (o : Outcome) → outcomeOf j f b ≡ o → Journal (contentOf j f b) (H ++ arrivals H (acceptedBy (answerOf o) (statementsOf (codingOf f) f b)))
     by (delivered L x y) e = let s = stored g f b e in rw (← s .list) (s .journal)
     by (refused r) e = rw (append-nil H, unchanged g f b e) g
 
@@ -142,7 +142,7 @@ held-more L M (s ∷ ss) h = (rw (held-append s L M, h .0), held-more L M ss (h 
 
 -- what was held is held after an event
 keeps-held : (D : Deliver) (j : List ℕ) (H ss : List Statement) (e : Event) → HeldBy H ss → HeldBy (heldAfterOne D j H e) ss
-keeps-held D j H ss (deliver f b) h = held-more H (arrivals H (acceptedBy (D j f b .answer) (statementsOf july f b))) ss h
+keeps-held D j H ss (deliver f b) h = held-more H (arrivals H (acceptedBy (D j f b .answer) (statementsOf (codingOf f) f b))) ss h
 
 -- and after a series
 ever-held : (D : Deliver) (j : List ℕ) (H ss : List Statement) (es : List Event) → HeldBy H ss → HeldBy (heldFrom D j H es) ss
@@ -181,12 +181,12 @@ run-held n hs behind stored held (s ∷ ss) h =
     rw (held-verdict n hs s (behind + 1) (h .0)) (run-held n hs (behind + sizeOf s) stored (held + 1) ss (h .1) ∙ ap (delivered hs stored) z)
 
 -- so a file whose statements are all held changes nothing
-pub wholly-held : {j : List ℕ} {L ss : List Statement} → Journal j L → (g : Form) (c : List ℕ) → Reads july g c ss → HeldBy L ss
+pub wholly-held : {j : List ℕ} {L ss : List Statement} → Journal j L → (g : Form) (c : List ℕ) → Reads (codingOf g) g c ss → HeldBy L ss
     → WhollyHeld ours j g c ss
 unfolding contentOf
 wholly-held {j} {L} {ss} d g c r h =
     let a = counts r in
-    let q : statementsOf july g c ≡ ss = unique (reads g c a) r in
+    let q : statementsOf (codingOf g) g c ≡ ss = unique (reads g c a) r in
     let o : outcomeOf j g c ≡ delivered L 0 (length ss) =
     outcome-by d g c ∙ rw (a, q) (run-held (linesIn j) L 0 0 0 ss h ∙ ap (delivered L 0) (zero-add (length ss))) in
     let l : journalOf (linesIn j) L ≡ j = rw (lines-are d) (sym (d .layout)) in
@@ -209,25 +209,25 @@ module _ (j : List ℕ) (right : isLength (length j) ≡ true) where
     came = let y = answered (outcomeOf (after ours (openedOf j) es) f b) done in (y .0, stored (from-opening es) f b (y .1))
 
     -- a file of the same statements is wholly held ever after
-    sent-alike : (later : List Event) (g : Form) (c : List ℕ) → Reads july g c (statementsOf july f b)
-        → WhollyHeld ours (after ours (openedOf j) (es ++ (deliver f b ∷ later))) g c (statementsOf july f b)
+    sent-alike : (later : List Event) (g : Form) (c : List ℕ) → Reads (codingOf g) g c (statementsOf (codingOf f) f b)
+        → WhollyHeld ours (after ours (openedOf j) (es ++ (deliver f b ∷ later))) g c (statementsOf (codingOf f) f b)
     unfolding after
     sent-alike later g c r =
         let J = after ours (openedOf j) es in
         let H = heldAfter ours (openedOf j) es in
         let x = came .1 in
-        let q : HeldBy (came .0) (statementsOf july f b) = rw (x .list) (arrived-held H (statementsOf july f b)) in
+        let q : HeldBy (came .0) (statementsOf (codingOf f) f b) = rw (x .list) (arrived-held H (statementsOf (codingOf f) f b)) in
         rw (after-append ours (openedOf j) es (deliver f b ∷ later))
-        (wholly-held (series (x .journal) later) g c r (ever-held ours (contentOf J f b) (came .0) (statementsOf july f b) later q))
+        (wholly-held (series (x .journal) later) g c r (ever-held ours (contentOf J f b) (came .0) (statementsOf (codingOf f) f b) later q))
 
     -- so the file with any of the three line ends
     sent-again : (later : List Event) (g : Form) → unknownEnd g ≡ false
-        → WhollyHeld ours (after ours (openedOf j) (es ++ (deliver f b ∷ later))) g (relined july f g b) (statementsOf july f b)
-    sent-again later g k = sent-alike later g (relined july f g b) (relined-reads (came .1 .read) k)
+        → WhollyHeld ours (after ours (openedOf j) (es ++ (deliver f b ∷ later))) g (relined (codingOf f) f g b) (statementsOf (codingOf f) f b)
+    sent-again later g k = sent-alike later g (relined (codingOf f) f g b) (relined-reads (came .1 .read) k)
 
     -- and the file with either zero wherever it has one
-    pub either-zero : (later : List Event) (c : List ℕ) → canonical july f c ≡ canonical july f b
-        → WhollyHeld ours (after ours (openedOf j) (es ++ (deliver f b ∷ later))) f c (statementsOf july f b)
+    pub either-zero : (later : List Event) (c : List ℕ) → canonical (codingOf f) f c ≡ canonical (codingOf f) f b
+        → WhollyHeld ours (after ours (openedOf j) (es ++ (deliver f b ∷ later))) f c (statementsOf (codingOf f) f b)
     either-zero later c z = sent-alike later f c (reads-canonical .1 (rw z (reads-canonical .0 (came .1 .read))))
 
 pub demand3 : Demand3 openedOf ours
@@ -255,6 +255,6 @@ deliver-demand3 O D o d =
 -- whatever meets it holds the very file wholly ever after: its own line end is one of the three
 pub same-again : {O : List ℕ → List ℕ} {D : Deliver} → Demand3 O D
     → (j : List ℕ) → isLength (length j) ≡ true → (es : List Event) (f : Form) (b : List ℕ) (s h : ℕ) → D (after D (O j) es) f b .answer ≡ Done s h
-    → (later : List Event) → WhollyHeld D (after D (O j) (es ++ (deliver f b ∷ later))) f b (statementsOf july f b)
+    → (later : List Event) → WhollyHeld D (after D (O j) (es ++ (deliver f b ∷ later))) f b (statementsOf (codingOf f) f b)
 same-again d j l es f b s h e later =
     let r = d .reads j l es f b s h e in rw (relined-own r) at (d .again j l es f b s h e later f (r .line))

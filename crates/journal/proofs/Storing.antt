@@ -12,7 +12,7 @@ use Rattle.framing.specs.Files.{lineEnd, widthOf}
 use Rattle.grammar.specs.Statements.{Statement}
 use Rattle.grammar.specs.Files.{Reads}
 use Rattle.grammar.specs.Parts.{sizeOf}
-use Rattle.records.specs.July.{recordSize, july}
+use Rattle.records.specs.July.{recordSize, codingOf}
 use Rattle.records.proofs.Theorems.{unique}
 use Rattle.contents.specs.Heads.{recordAtOf}
 use Rattle.bodies.specs.Bodies.{bodyOf, closingIn}
@@ -26,7 +26,7 @@ use Rattle.journal_layout.proofs.Holding.{length-entry-of}
 use Rattle.journal_layout.proofs.Adding.{entry-value}
 use Rattle.journal.specs.Plans.{partsFrom, Reading, entryWritten, bodyWritten, written, writtenAll, Roomy, Storable}
 
-module _ (j : List ℕ) (e k : ℕ) {f : Form} {part : List ℕ} {s : Statement} (r : Reads july f part (s ∷ [])) (h : e < mostEntries) (l : lineAt (k + sizeOf s) ≤ length j) where
+module _ (j : List ℕ) (e k : ℕ) {f : Form} {part : List ℕ} {s : Statement} (r : Reads (codingOf f) f part (s ∷ [])) (h : e < mostEntries) (l : lineAt (k + sizeOf s) ≤ length j) where
   pub size-is : length part / (recordSize + lineEnd f) ≡ sizeOf s
   unfolding widthOf
   size-is = part-count r
@@ -86,7 +86,7 @@ module _ {j₀ : List ℕ} {f : Form} {b places ends : List ℕ} {count entry li
       pub s : Statement
       pub Q′ : List Statement
       pub is : g .Q ≡ s ∷ Q′
-      pub part : Reads july f (take (getD ends p 0 - getD places p 0) (drop (getD places p 0) b)) (s ∷ [])
+      pub part : Reads (codingOf f) f (take (getD ends p 0 - getD places p 0) (drop (getD places p 0) b)) (s ∷ [])
       pub others : Reading f (partsFrom (count - (p + 1)) (p + 1) places ends b) Q′
       pub entry-there : entry + p < mostEntries
       pub lines-there : lineAt (k + sizeOf s) ≤ length j₀

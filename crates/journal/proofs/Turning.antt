@@ -12,8 +12,8 @@ use Rattle.grammar.specs.Statements.{Statement, allRecords}
 use Rattle.grammar.specs.Files.{Reads}
 use Rattle.grammar.specs.Parts.{sizeOf, recordsBefore, noStatement}
 use Rattle.grammar.proofs.Exact.{reads-length}
-use Rattle.records.specs.July.{recordSize, mostInFile, july, july2004}
-use Rattle.records.proofs.Lawful.{july-lawful}
+use Rattle.records.specs.July.{recordSize, mostInFile, codingOf, editionOf}
+use Rattle.records.proofs.Lawful.{lawful}
 use Rattle.records.proofs.Theorems.{part-reads}
 use Rattle.readers.specs.Places.{endAfter}
 use Rattle.readers.proofs.Cursor.{cursor}
@@ -22,11 +22,11 @@ use Rattle.readers.proofs.Rows.{some, before-next}
 use Rattle.readers.proofs.Turns.{between, one-more}
 
 -- an accepted file is not long
-pub file-small : {f : Form} {b : List ℕ} {ss : List Statement} → Reads july f b ss → length b ≤ 2440000
+pub file-small : {f : Form} {b : List ℕ} {ss : List Statement} → Reads (codingOf f) f b ss → length b ≤ 2440000
 unfolding widthOf
 file-small {f} {b} {ss} r =
-    let l = reads-length july july-lawful r in
-    let m : length (allRecords july2004 ss) * (recordSize + lineEnd f) ≤ mostInFile * (recordSize + lineEnd f) = mul-le-mul-right (recordSize + lineEnd f) (r .few) in
+    let l = reads-length (codingOf f) (lawful f) r in
+    let m : length (allRecords (editionOf f) ss) * (recordSize + lineEnd f) ≤ mostInFile * (recordSize + lineEnd f) = mul-le-mul-right (recordSize + lineEnd f) (r .few) in
     let e = ltb-false 2 (lineEnd f) (r .line) in
     omega arith
 
@@ -36,12 +36,12 @@ pub record Turn (f : Form) (b : List ℕ) (ss : List Statement) (i at end : ℕ)
   pub next : end ≡ recordsBefore (i + 1) ss * widthOf recordSize f
   pub rises : at < end
   pub within : end ≤ length b
-  pub reads : Reads july f (take (end - at) (drop at b)) (getD ss i noStatement ∷ [])
+  pub reads : Reads (codingOf f) f (take (end - at) (drop at b)) (getD ss i noStatement ∷ [])
   pub len : end - at ≡ sizeOf (getD ss i noStatement) * widthOf recordSize f
   pub size : (end - at) / widthOf recordSize f ≡ sizeOf (getD ss i noStatement)
   pub behind : at / widthOf recordSize f ≡ recordsBefore i ss
 
-module _ {f : Form} {b : List ℕ} {ss : List Statement} (r : Reads july f b ss) where
+module _ {f : Form} {b : List ℕ} {ss : List Statement} (r : Reads (codingOf f) f b ss) where
   pub turn : {i at end : ℕ} → i ≤ length ss → at ≡ recordsBefore i ss * widthOf recordSize f → at < length b → end ≡ endAfter f b at → Turn f b ss i at end
   turn {i} {at} {end} u p l e =
       let w = widthOf recordSize f in

@@ -16,7 +16,7 @@ use Rattle.grammar.specs.Statements.{Statement}
 use Rattle.grammar.specs.Files.{Reads}
 use Rattle.grammar.specs.Parts.{sizeOf}
 use Rattle.grammar.proofs.Tests.{or-assoc}
-use Rattle.records.specs.July.{recordSize, july}
+use Rattle.records.specs.July.{recordSize, codingOf}
 use Rattle.records.specs.Looks.{lookOf}
 use Rattle.contents.specs.Heads.{recordAtOf}
 use Rattle.bodies.specs.Bodies.{identical}
@@ -59,7 +59,7 @@ not-held k last (a ∷ A) h = not-held k (pick (sameKey (a .key) k) (After (a .n
 
 -- ---- the parts of a file
 
-module _ {f : Form} {x : List ℕ} {t : Statement} (r : Reads july f x (t ∷ [])) where
+module _ {f : Form} {x : List ℕ} {t : Statement} (r : Reads (codingOf f) f x (t ∷ [])) where
   held-value : (hs : List (List ℕ)) (P : List Statement) → Reading f hs P → heldIn f hs x ≡ heldAmong t P
   unfolding heldIn heldAmong
   held-value [] [] p = refl

@@ -12,7 +12,7 @@ use Rattle.grammar.specs.Answer.{refused}
 use Rattle.grammar.specs.Record.{sameKey}
 use Rattle.grammar.specs.Statements.{Statement, sizes}
 use Rattle.grammar.specs.Files.{checkOf, statementsOf}
-use Rattle.records.specs.July.{recordSize, july}
+use Rattle.records.specs.July.{recordSize, codingOf}
 use Rattle.records.specs.Worked.{nil}
 use Rattle.records.proofs.Theorems as T
 use Rattle.records.proofs.Worked.{nil-accepted}
@@ -108,12 +108,12 @@ module _ {O : List ℕ → List ℕ} {D : Deliver} (d : Demand3 O D) where
   -- any file on any journal just opened
   module _ (j : List ℕ) (right : isLength (length j) ≡ true) (f : Form) (b : List ℕ) {x y : ℕ} (done : D (O j) f b .answer ≡ Done x y) where
     -- what must be held after it
-    must-hold : Journal (D (O j) f b .journal) (arrivals [] (statementsOf july f b))
+    must-hold : Journal (D (O j) f b .journal) (arrivals [] (statementsOf (codingOf f) f b))
     unfolding after heldFrom
     must-hold = rw done at (d .holds j right (deliver f b ∷ []))
 
     -- the journal is not as it was where the file has a statement
-    pub not-unchanged : {s : Statement} {ss : List Statement} → statementsOf july f b ≡ s ∷ ss → D (O j) f b .journal ≡ O j → ⊥
+    pub not-unchanged : {s : Statement} {ss : List Statement} → statementsOf (codingOf f) f b ≡ s ∷ ss → D (O j) f b .journal ≡ O j → ⊥
     unfolding after heldFrom arrivals heldAmong
     not-unchanged {s} {ss} e n =
         let h : Journal (O j) [] = d .holds j right [] in
@@ -123,7 +123,7 @@ module _ {O : List ℕ → List ℕ} {D : Deliver} (d : Demand3 O D) where
         omega arith
 
     -- and does not hold the first alone where another follows
-    pub not-the-first : {s t : Statement} {ss : List Statement} → statementsOf july f b ≡ s ∷ t ∷ ss → identical s t ≡ false → Journal (D (O j) f b .journal) (s ∷ []) → ⊥
+    pub not-the-first : {s t : Statement} {ss : List Statement} → statementsOf (codingOf f) f b ≡ s ∷ t ∷ ss → identical s t ≡ false → Journal (D (O j) f b .journal) (s ∷ []) → ⊥
     unfolding arrivals heldAmong
     not-the-first {s} {t} {ss} e n h =
         let g : Journal (D (O j) f b .journal) (s ∷ t ∷ arrivals (s ∷ t ∷ []) ss) = rw (e, n) at must-hold in
@@ -131,7 +131,7 @@ module _ {O : List ℕ → List ℕ} {D : Deliver} (d : Demand3 O D) where
         omega arith
 
     -- the check does not refuse it
-    pub not-refused : {n r : ℕ} → checkOf july f b ≡ refused n r → ⊥
+    pub not-refused : {n r : ℕ} → checkOf (codingOf f) f b ≡ refused n r → ⊥
     unfolding after
     not-refused e =
         let c = T.counts (d .reads j right [] f b x y done) in

@@ -11,7 +11,7 @@ use Rattle.grammar.specs.Answer as G
 use Rattle.grammar.specs.Statements.{Statement}
 use Rattle.grammar.specs.Files.{statementsOf, checkOf}
 use Rattle.grammar.specs.Parts.{sizeOf}
-use Rattle.records.specs.July.{recordSize, july}
+use Rattle.records.specs.July.{recordSize, codingOf}
 use Rattle.entries.specs.Entries.{mostEntries, tableSize}
 use Rattle.journal_layout.specs.declared.Judgement.{Judgement}
 use Rattle.journal_layout.specs.declared.Judgement.the-variants.{Held, First, After}
@@ -75,7 +75,7 @@ outcomeBy (G.refused n r) o = refused (refusal n r)
 -- THE DELIVERY: 21 first, then the file's refusals, then its statements in turn
 unfoldable pub outcomeOf : List ℕ → Form → List ℕ → Outcome
 outcomeOf j f b =
-    pick (soundIn j) (outcomeBy (checkOf july f b) (run (linesIn j) (heldOf j) 0 0 0 (statementsOf july f b))) (refused (refusal 21 0))
+    pick (soundIn j) (outcomeBy (checkOf (codingOf f) f b) (run (linesIn j) (heldOf j) 0 0 0 (statementsOf (codingOf f) f b))) (refused (refusal 21 0))
 
 -- the journal's bytes after it: any refusal leaves the whole journal unchanged
 abbrev pub contentBy : List ℕ → Outcome → List ℕ

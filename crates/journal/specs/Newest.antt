@@ -13,7 +13,7 @@ use Rattle.grammar.specs.Record.{sameKey}
 use Rattle.grammar.specs.Statements.{Statement}
 use Rattle.grammar.specs.Files.{statementsOf}
 use Rattle.grammar.specs.Parts.{sizeOf, recordsBefore, noStatement}
-use Rattle.records.specs.July.{recordSize, july, keyIn}
+use Rattle.records.specs.July.{recordSize, keyIn, codingOf}
 use Rattle.contents.specs.Heads.{recordAtOf}
 use Rattle.entries.specs.Entries.{lineAt, bodyAt}
 use Rattle.journal_layout.specs.Test.{heldOf}
@@ -56,7 +56,7 @@ newestBy (refused r) x = Refused (r .number) (r .«record»)
 unfoldable pub newestOf : List ℕ → Form → List ℕ → List ℕ → Found
 newestOf j f b x =
     newestBy (outcomeOf j f b)
-    (pick (eqb (length x) keySize) (newestAmong f (keyFrom x) (heldOf j) (statementsOf july f b)) (Refused 25 0))
+    (pick (eqb (length x) keySize) (newestAmong f (keyFrom x) (heldOf j) (statementsOf (codingOf f) f b)) (Refused 25 0))
 
 -- the part that a place names, of whichever holds it; empty on refusal
 abbrev pub partBy : Found → (journal file : List ℕ) → List ℕ

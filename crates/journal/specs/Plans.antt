@@ -11,7 +11,7 @@ use Rattle.grammar.specs.Answer.{Counts, accepted}
 use Rattle.grammar.specs.Statements.{Statement}
 use Rattle.grammar.specs.Files.{Reads, statementsOf, checkOf}
 use Rattle.grammar.specs.Parts.{sizeOf}
-use Rattle.records.specs.July.{recordSize, july}
+use Rattle.records.specs.July.{recordSize, codingOf}
 use Rattle.bodies.specs.Bodies.{bodyOf, sameRecords}
 use Rattle.entries.specs.Entries.{mostEntries, entrySize, lineAt}
 use Rattle.journal_layout.specs.declared.Judgement.{Judgement}
@@ -61,7 +61,7 @@ abbrev pub Reading : Form → List (List ℕ) → List Statement → Type 0
 Reading f [] [] = Unit
 Reading f [] (s ∷ ss) = ⊥
 Reading f (h ∷ hs) [] = ⊥
-Reading f (h ∷ hs) (s ∷ ss) = Reads july f h (s ∷ []) × Reading f hs ss
+Reading f (h ∷ hs) (s ∷ ss) = Reads (codingOf f) f h (s ∷ []) × Reading f hs ss
 
 -- a statement written into entry e and the lines from k on
 abbrev pub entryWritten : (e k : ℕ) → Statement → List ℕ → List ℕ
@@ -87,7 +87,7 @@ Roomy e k size (s ∷ ss) = (e < mostEntries) × (lineAt (k + sizeOf s) ≤ size
 pub record Deliverable (j : List ℕ) (f : Form) (b : List ℕ) : Type 0 where
   pub sound : soundIn j ≡ true
   pub counts : Counts
-  pub yes : checkOf july f b ≡ accepted counts
+  pub yes : checkOf (codingOf f) f b ≡ accepted counts
 
 -- the plan after the last statement
 abbrev pub donePlan : (count : ℕ) (places ends : List ℕ) → Free → (held : ℕ) → Plan
@@ -112,7 +112,7 @@ pub record Judgeable (j : List ℕ) (f : Form) (b places ends : List ℕ) (held 
   pub room : left ≡ linesIn j - linesOf (heldOf j ++ list)
   pub rises : at < end
   pub within : end ≤ length b
-  pub reads : Reads july f (take (end - at) (drop at b)) (statement ∷ [])
+  pub reads : Reads (codingOf f) f (take (end - at) (drop at b)) (statement ∷ [])
 
 -- its answer: the verdict on that statement beside the held and the planned ones
 pub record Turned (j : List ℕ) (f : Form) (b places ends : List ℕ) (held count left at end : ℕ) (v : Verdict) : Type 0 where
@@ -134,8 +134,8 @@ spansFrom (suc n) p places ends = span (getD places p 0) (getD ends p 0 - getD p
 
 -- of a delivery without a refusal: the parts are those of the statements that are new, in order of first arrival, behind those held
 pub record Arrived (j : List ℕ) (f : Form) (b : List ℕ) (r : Plan) (list : List Statement) : Type 0 where
-  pub new : list ≡ arrivals (heldOf j) (statementsOf july f b)
-  pub spans : spansFrom (r .count) 0 (r .places) (r .ends) ≡ spansOf (widthOf recordSize f) (heldOf j) 0 (statementsOf july f b)
+  pub new : list ≡ arrivals (heldOf j) (statementsOf (codingOf f) f b)
+  pub spans : spansFrom (r .count) 0 (r .places) (r .ends) ≡ spansOf (widthOf recordSize f) (heldOf j) 0 (statementsOf (codingOf f) f b)
   pub entry : r .entry ≡ length (heldOf j)
 
 -- A plan: the statements to store, with room for them; and the delivery's answer. Written into the journal they are the delivery's content.
@@ -153,8 +153,8 @@ pub record Searchable (j : List ℕ) (f : Form) (b places ends : List ℕ) (coun
   pub named : (count ≤ length places) × (count ≤ length ends)
   pub inside : Inside count places ends b
   pub reads : Reading f (partsFrom count 0 places ends b) list
-  pub new : list ≡ arrivals (heldOf j) (statementsOf july f b)
-  pub spans : spansFrom count 0 places ends ≡ spansOf (widthOf recordSize f) (heldOf j) 0 (statementsOf july f b)
+  pub new : list ≡ arrivals (heldOf j) (statementsOf (codingOf f) f b)
+  pub spans : spansFrom count 0 places ends ≡ spansOf (widthOf recordSize f) (heldOf j) 0 (statementsOf (codingOf f) f b)
 
 -- what was found, and that it lies there
 pub record Finds (answer : Found) (j b : List ℕ) (r : Found) : Type 0 where

@@ -13,7 +13,7 @@ use Rattle.grammar.specs.Record.{sameKey}
 use Rattle.grammar.specs.Statements.{Statement}
 use Rattle.grammar.specs.Files.{Reads, Writable, statementsOf}
 use Rattle.grammar.specs.Parts.{noStatement}
-use Rattle.records.specs.July.{july}
+use Rattle.records.specs.July.{july, codingOf}
 use Rattle.readers.specs.declared.Place.the-variants as P
 use Rattle.bodies.specs.Bodies.{bodyOf}
 use Rattle.entries.specs.Entries.{mostEntries}
@@ -45,7 +45,7 @@ pub record Promise (j : List ℕ) (ss : List Statement) : Type 0 where
   -- after one test: how many there are, the body of entry e, what it reads as, whose it is, and that there is no other
   pub held : holdingOf j ≡ Statements (length ss)
   pub body : (e : ℕ) → 0 < e → e ≤ length ss → bodyIn j e ≡ bodyOf (getD ss (e - 1) noStatement)
-  pub reads : (e : ℕ) → 0 < e → e ≤ length ss → Reads july plain (bodyIn j e) (getD ss (e - 1) noStatement ∷ [])
+  pub reads : (e : ℕ) → 0 < e → e ≤ length ss → Reads (codingOf plain) plain (bodyIn j e) (getD ss (e - 1) noStatement ∷ [])
   pub account : (x : List ℕ) (e : ℕ) → 0 < e → e ≤ length ss
       → ofAccountIn x (bodyIn j e) ≡ pick (eqb (length x) keySize) (sameKey (getD ss (e - 1) noStatement .key) (keyFrom x)) false
   pub no-body : (e : ℕ) → length ss < e → bodyIn j e ≡ []
@@ -53,8 +53,8 @@ pub record Promise (j : List ℕ) (ss : List Statement) : Type 0 where
 -- a delivery without a refusal adds the statements that are new, in order of first arrival; a refused one changes nothing
 pub record Adds (j : List ℕ) (f : Form) (b : List ℕ) : Type 0 where
   pub stored : (s h : ℕ) → answerOf (outcomeOf j f b) ≡ Done s h
-      → (heldOf (contentOf j f b) ≡ heldOf j ++ arrivals (heldOf j) (statementsOf july f b)) × (soundIn (contentOf j f b) ≡ true)
+      → (heldOf (contentOf j f b) ≡ heldOf j ++ arrivals (heldOf j) (statementsOf (codingOf f) f b)) × (soundIn (contentOf j f b) ≡ true)
   pub counted : (s h : ℕ) → answerOf (outcomeOf j f b) ≡ Done s h
-      → (s ≡ length (arrivals (heldOf j) (statementsOf july f b))) × (s + h ≡ length (statementsOf july f b))
-  pub read : (s h : ℕ) → answerOf (outcomeOf j f b) ≡ Done s h → Reads july f b (statementsOf july f b)
+      → (s ≡ length (arrivals (heldOf j) (statementsOf (codingOf f) f b))) × (s + h ≡ length (statementsOf (codingOf f) f b))
+  pub read : (s h : ℕ) → answerOf (outcomeOf j f b) ≡ Done s h → Reads (codingOf f) f b (statementsOf (codingOf f) f b)
   pub unchanged : (r : Refusal) → answerOf (outcomeOf j f b) ≡ Refused r → contentOf j f b ≡ j

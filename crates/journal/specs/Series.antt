@@ -9,7 +9,7 @@ use Rattle.framing.specs.Files.{unknownEnd}
 use Rattle.grammar.specs.declared.Key.{Key}
 use Rattle.grammar.specs.Statements.{Statement}
 use Rattle.grammar.specs.Files.{relined, Reads, statementsOf}
-use Rattle.records.specs.July.{july}
+use Rattle.records.specs.July.{codingOf}
 use Rattle.journal_layout.specs.Chains.{Chained, ofAccount, Distinct}
 use Rattle.journal_layout.specs.Layout.{isLength, Journal}
 use Rattle.journal.specs.declared.Delivery.{Delivery}
@@ -46,7 +46,7 @@ module _ (D : Deliver) where
 
   -- the statements held after one event, where hs were held: those of a file delivered without a refusal come behind them, in order of first arrival
   abbrev pub heldAfterOne : List ℕ → List Statement → Event → List Statement
-  heldAfterOne j hs (deliver f b) = hs ++ arrivals hs (acceptedBy (D j f b .answer) (statementsOf july f b))
+  heldAfterOne j hs (deliver f b) = hs ++ arrivals hs (acceptedBy (D j f b .answer) (statementsOf (codingOf f) f b))
 
   -- the statements held after a series, where hs were held
   unfoldable pub heldFrom : List ℕ → List Statement → List Event → List Statement
@@ -60,7 +60,7 @@ module _ (D : Deliver) where
   -- in the paper's words: the statements of the accepted files of a series, one file after another; accepted means here: delivered without a refusal
   unfoldable pub accepted : List ℕ → List Event → List Statement
   accepted j [] = []
-  accepted j (deliver f b ∷ es) = acceptedBy (D j f b .answer) (statementsOf july f b) ++ accepted (D j f b .journal) es
+  accepted j (deliver f b ∷ es) = acceptedBy (D j f b .answer) (statementsOf (codingOf f) f b) ++ accepted (D j f b .journal) es
 
 -- a file of the statements ss is answered as wholly held and changes nothing
 abbrev pub WhollyHeld : Deliver → (j : List ℕ) → Form → (b : List ℕ) → List Statement → Type 0
@@ -79,18 +79,18 @@ pub record Demand3 (O : List ℕ → List ℕ) (D : Deliver) : Type 0 where
   pub summed : (j : List ℕ) → isLength (length j) ≡ true → (es : List Event) (k : Key) → Summed (ofAccount k (heldAfter D (O j) es))
   -- what is answered without a refusal is a file of statements
   pub reads : (j : List ℕ) → isLength (length j) ≡ true → (es : List Event) (f : Form) (b : List ℕ) (s h : ℕ)
-      → D (after D (O j) es) f b .answer ≡ Done s h → Reads july f b (statementsOf july f b)
+      → D (after D (O j) es) f b .answer ≡ Done s h → Reads (codingOf f) f b (statementsOf (codingOf f) f b)
   -- the answer is how many of the file's statements were stored and how many were held
   pub counts : (j : List ℕ) → isLength (length j) ≡ true → (es : List Event) (f : Form) (b : List ℕ) (s h : ℕ)
       → D (after D (O j) es) f b .answer ≡ Done s h
-      → (s ≡ length (arrivals (heldAfter D (O j) es) (statementsOf july f b))) × (s + h ≡ length (statementsOf july f b))
+      → (s ≡ length (arrivals (heldAfter D (O j) es) (statementsOf (codingOf f) f b))) × (s + h ≡ length (statementsOf (codingOf f) f b))
   -- such a file, sent again at any later time with any of the three line ends, is answered as wholly held and changes nothing
   pub again : (j : List ℕ) → isLength (length j) ≡ true → (es : List Event) (f : Form) (b : List ℕ) (s h : ℕ)
       → D (after D (O j) es) f b .answer ≡ Done s h
       → (later : List Event) (g : Form) → unknownEnd g ≡ false
-      → WhollyHeld D (after D (O j) (es ++ (deliver f b ∷ later))) g (relined july f g b) (statementsOf july f b)
+      → WhollyHeld D (after D (O j) (es ++ (deliver f b ∷ later))) g (relined (codingOf f) f g b) (statementsOf (codingOf f) f b)
   -- and so is any file of the same statements: its zeros may have the other sign
   pub alike : (j : List ℕ) → isLength (length j) ≡ true → (es : List Event) (f : Form) (b : List ℕ) (s h : ℕ)
       → D (after D (O j) es) f b .answer ≡ Done s h
-      → (later : List Event) (g : Form) (c : List ℕ) → Reads july g c (statementsOf july f b)
-      → WhollyHeld D (after D (O j) (es ++ (deliver f b ∷ later))) g c (statementsOf july f b)
+      → (later : List Event) (g : Form) (c : List ℕ) → Reads (codingOf g) g c (statementsOf (codingOf f) f b)
+      → WhollyHeld D (after D (O j) (es ++ (deliver f b ∷ later))) g c (statementsOf (codingOf f) f b)

@@ -9,7 +9,7 @@ ghost use Rattle.framing.specs.Files.{lineEnd};
 ghost use Rattle.grammar.specs.Statements.{Statement};
 ghost use Rattle.grammar.specs.Files.{Reads, statementsOf};
 ghost use Rattle.grammar.specs.Parts.{sizeOf};
-ghost use Rattle.records.specs.July.{july};
+ghost use Rattle.records.specs.July.{codingOf};
 ghost use Rattle.records.specs.Looks.{lookOf};
 ghost use Rattle.entries.specs.Entries.{mostEntries, lineAt};
 ghost use Rattle.journal.specs.Delivery.{refusal, isHeld, verdictBy};
@@ -277,7 +277,7 @@ fn dry_run(journal: &[u8], form: Form, file: &[u8]) -> Plan
 // One statement into an entry and the lines from a line on. Its number of records.
 fn store(journal: &mut [u8], e: usize, line: usize, form: Form, part: &[u8]) -> usize
     requires { ⌜ (e < mostEntries) × (lineAt line ≤ length (now journal)) × (lineEnd form ≤ 2) ⌝ }
-    ensures { λ n. ⌜ ((s : Statement) → Reads july form (now (part .entry)) (s ∷ []) → lineAt (line + sizeOf s) ≤ length (now (journal .entry)) → (n ≡ sizeOf s) × (now (journal .exit) ≡ written e line s (now (journal .entry)))) ⌝ }
+    ensures { λ n. ⌜ ((s : Statement) → Reads (codingOf form) form (now (part .entry)) (s ∷ []) → lineAt (line + sizeOf s) ≤ length (now (journal .entry)) → (n ≡ sizeOf s) × (now (journal .exit) ≡ written e line s (now (journal .entry)))) ⌝ }
 {
     let width = 120 + form.line_end as usize;
     let size = part.len() / width;
@@ -431,7 +431,7 @@ fn newest_planned(
     key: &[u8],
 ) -> Found
     requires { ⌜ Searchable (now journal) form (now file) (now places) (now ends) count held ⌝ }
-    ensures { λ r. ⌜ Finds (pick (eqb (length (now (key .entry))) keySize) (newestAmong form (keyFrom (now (key .entry))) (heldOf (now (journal .entry))) (statementsOf july form (now (file .entry)))) (Refused 25 0)) (now (journal .entry)) (now (file .entry)) r ⌝ }
+    ensures { λ r. ⌜ Finds (pick (eqb (length (now (key .entry))) keySize) (newestAmong form (keyFrom (now (key .entry))) (heldOf (now (journal .entry))) (statementsOf (codingOf form) form (now (file .entry)))) (Refused 25 0)) (now (journal .entry)) (now (file .entry)) r ⌝ }
 {
     if key.len() != 25 {
         return none_found();

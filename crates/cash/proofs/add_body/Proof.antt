@@ -5,7 +5,7 @@ use mathlib.Core.Path.{ap, _∙_}
 use Rattle.framing.specs.Files.{plain}
 use Rattle.grammar.specs.Statements.{Statement}
 use Rattle.grammar.specs.Files.{Reads}
-use Rattle.records.specs.July.{july}
+use Rattle.records.specs.July.{codingOf}
 use mathlib.Core.List.{_∷_, []}
 use Rattle.cash.proofs.Filling.{valued-back, Walked, walk-start, turn-bound, turned, later, walk-end}
 use Rattle.fields.specs.Rows.{valuedAtOf}
@@ -14,7 +14,7 @@ use Rattle.cash.proofs.add_body.Statement.{statement}
 use Rattle.cash.proofs.add_body.Tie as tie
 
 abbrev Inv-loop : tie.InvT-loop
-Inv-loop table₀ first body at₀ table at = (s : Statement) → Reads july plain body (s ∷ []) → Walked s table₀ first body table at
+Inv-loop table₀ first body at₀ table at = (s : Statement) → Reads (codingOf plain) plain body (s ∷ []) → Walked s table₀ first body table at
 
 abbrev μ-loop : tie.MeasureT-loop
 μ-loop table₀ first body at₀ table at = length body - at
