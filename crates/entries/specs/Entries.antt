@@ -57,11 +57,11 @@ entryPut first n o c dst = pick (eqb (length dst) entrySize && bothRecords o c) 
 abbrev pub noEntry : Entry
 noEntry = record { used = false; first = 0; records = 0 }
 
--- an entry is used where its number of records does not begin with a blank
+-- an entry is used where its first body line does not begin with a blank
 unfoldable pub fieldsOf : List ℕ → Entry
 fieldsOf x =
     pick (eqb (length x) entrySize)
-    (record { used = not (eqb (getD x 43 0) 32); first = valueOf (part 38 43 x); records = valueOf (part 44 47 x) })
+    (record { used = not (eqb (getD x 37 0) 32); first = valueOf (part 38 43 x); records = valueOf (part 44 47 x) })
     noEntry
 
 -- the bytes of entry e, from 0

@@ -70,7 +70,7 @@ fn entry_fields(x: &[u8]) -> Entry
     ensures { λ r. ⌜ r ≡ fieldsOf (now (x .entry)) ⌝ }
 {
     Entry {
-        used: x[43] != b' ',
+        used: x[37] != b' ',
         first: zones::number(&x[37..43]) as usize,
         records: zones::number(&x[43..47]) as usize,
     }

@@ -228,16 +228,16 @@ unused-there j e k i r g h l = rw (lt-leb mostEntries i h) (by (eqb (length (ent
     rest : List ℕ
     rest = take (tableSize - entrySize * e) (drop (entrySize * e) j)
 
-    byte : getD (entryBytes j i) 43 0 ≡ 32
+    byte : getD (entryBytes j i) 37 0 ≡ 32
     byte =
-        let d = entrySize * (i - e) + 43 in
+        let d = entrySize * (i - e) + 37 in
         let n = length-take-le (tableSize - entrySize * e) (drop (entrySize * e) j) (omega (arith, length-drop (entrySize * e) j)) in
         let b = every-at (inClass blank) rest d (omega arith) (and-left (all blank rest) _ r) in
         let c = in-range (getD rest d 0) b in
         let z : getD rest d 0 ≡ 32 = omega (arith, c .0, c .1) in
-        let y : entrySize * e + d ≡ entrySize * i + 43 = omega arith in
-        getD-take entrySize (drop (entrySize * i) j) 43 0 (omega arith)
-        ∙ getD-drop (entrySize * i) j 43 0
+        let y : entrySize * e + d ≡ entrySize * i + 37 = omega arith in
+        getD-take entrySize (drop (entrySize * i) j) 37 0 (omega arith)
+        ∙ getD-drop (entrySize * i) j 37 0
         ∙ ap (λ (m : ℕ). getD j m 0) (sym y)
         ∙ sym (getD-drop (entrySize * e) j d 0)
         ∙ sym (getD-take (tableSize - entrySize * e) (drop (entrySize * e) j) d 0 (omega arith))
@@ -246,13 +246,13 @@ unused-there j e k i r g h l = rw (lt-leb mostEntries i h) (by (eqb (length (ent
     by : (t : Bool)
         → pick t
         (record {
-          used = not (eqb (getD (entryBytes j i) 43 0) 32);
+          used = not (eqb (getD (entryBytes j i) 37 0) 32);
           first = valueOf (part 38 43 (entryBytes j i));
           records = valueOf (part 44 47 (entryBytes j i));
         })
         noEntry .used
         ≡ false
-    by true = rw (eq-eqb (getD (entryBytes j i) 43 0) 32 byte)
+    by true = rw (eq-eqb (getD (entryBytes j i) 37 0) 32 byte)
     by false = refl
 
 -- the statement behind those of H
