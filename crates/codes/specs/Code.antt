@@ -17,6 +17,10 @@ use Rattle.codes.specs.Annex.{Family, OPCA, OPPF, OPET, OPTB, AGFR, OPFI
 unfoldable pub charValue : ℕ → ℕ
 charValue b = pick (between 48 57 b) (b - 48) (pick (between 65 90 b) (10 + (b - 65)) 36)
 
+-- how many codes two characters can be: 36 times 36
+abbrev pub mostCodes : ℕ
+mostCodes = 1296
+
 -- the index of a code: 36 times the first character plus the second
 abbrev pub indexOf : ℕ → ℕ → ℕ
 indexOf first second = 36 * charValue first + charValue second
@@ -40,9 +44,12 @@ familyNumber AGFR = 5
 familyNumber OPFI = 6
 familyNumber DIVE = 7
 
--- 2047 where the annex has no generic code
+-- the number for no generic code: more than any index
+abbrev pub noGeneric : ℕ
+noGeneric = 2047
+
 abbrev pub genericNumber : Option String → ℕ
-genericNumber none = 2047
+genericNumber none = noGeneric
 genericNumber (some t) = index t
 
 -- the number of the row of an index, 0 where there is none
@@ -62,7 +69,7 @@ numberAt i = pick (oneOf withdrawn i) 1 (rowAt annex i)
 
 -- the 1,296 numbers
 unfoldable pub codeTable : List ℕ
-codeTable = tabulate numberAt 0 1296
+codeTable = tabulate numberAt 0 mostCodes
 
 -- the number in a table of the code of two bytes: 0 where one is outside A-Z, 0-9
 unfoldable pub numberIn : List ℕ → ℕ → ℕ → ℕ
