@@ -3,8 +3,14 @@ ghost use mathlib.Core.Path.{_≡_};
 ghost use Rattle.codes.specs.Code.{charValue, signTicked, markFor};
 ghost use Rattle.codes.specs.Answers.{Table, NumberIn, MarkIn, Number, Mark, DebitTicked, CreditTicked, Family, Generic};
 
+// The characters of a code: 0 to 9, A to Z.
+const CHARACTERS: usize = 36;
+
+// The codes of two characters, and so the numbers of a table.
+pub const CODES: usize = CHARACTERS * CHARACTERS;
+
 // The number of each code of annex 2, at its index. Those of the worked examples are named.
-const TABLE: [u16; 1296] = [
+const TABLE: [u16; CODES] = [
     0,
     65509, // 01
     70,
@@ -1304,7 +1310,7 @@ const TABLE: [u16; 1296] = [
 ];
 
 // The whole table, for a caller that looks codes up in a loop: each mention of a constant builds it anew.
-pub fn table() -> [u16; 1296]
+pub fn table() -> [u16; CODES]
     ensures { λ r. ⌜ Table r ⌝ }
 {
     TABLE
@@ -1320,22 +1326,22 @@ fn char_value(b: u8) -> usize
     if (b'A' <= b) & (b <= b'Z') {
         return 10 + (b - b'A') as usize;
     }
-    36
+    CHARACTERS
 }
 
 // The number in a lent table of the code of two bytes; 0 where one is outside A-Z, 0-9.
-pub fn number_in(table: &[u16; 1296], first: u8, second: u8) -> u16
+pub fn number_in(table: &[u16; CODES], first: u8, second: u8) -> u16
     ensures { λ r. ⌜ NumberIn (now (table .entry)) first second r ⌝ }
 {
     let a = char_value(first);
     let b = char_value(second);
-    if a >= 36 {
+    if a >= CHARACTERS {
         return 0;
     }
-    if b >= 36 {
+    if b >= CHARACTERS {
         return 0;
     }
-    table[36 * a + b]
+    table[CHARACTERS * a + b]
 }
 
 // The same in the table of annex 2.
@@ -1404,7 +1410,7 @@ fn mark_for(n: u16, amount: i64) -> u8
 }
 
 // The mark of a movement by a lent table.
-pub fn mark_in(table: &[u16; 1296], first: u8, second: u8, amount: i64) -> u8
+pub fn mark_in(table: &[u16; CODES], first: u8, second: u8, amount: i64) -> u8
     ensures { λ r. ⌜ MarkIn (now (table .entry)) first second amount r ⌝ }
 {
     mark_for(number_in(table, first, second), amount)

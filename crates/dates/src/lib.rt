@@ -7,7 +7,7 @@ ghost use Rattle.dates.specs.Ordinals.{beforeMonth};
 ghost use Rattle.dates.specs.Answers.{Read, IsDay, Put, Ordinal, OfOrdinal};
 
 // The days from 1980 to 2079, and what no day has for an ordinal.
-const ALL_DAYS: u32 = 36525;
+pub const ALL_DAYS: u32 = 36525;
 
 pub enum Date {
     Day(u32),

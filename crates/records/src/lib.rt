@@ -17,6 +17,18 @@ use dates::Date;
 
 pub mod rules;
 
+// The bytes of a record.
+pub const RECORD: usize = 120;
+
+// The most records of a file.
+pub const MOST_IN_FILE: u32 = 20000;
+
+// The most records of a statement.
+pub const MOST_IN_STATEMENT: u64 = 9999;
+
+// The bytes of a complement's text: the qualifier and the information of a 05.
+pub const TEXT: usize = 73;
+
 // What the check needs to know of a record. The kind of an unknown code is 7, as the definitions have it.
 pub struct Look {
     pub unknown: bool,
@@ -230,7 +242,7 @@ fn dates_fit(r: &[u8], kind: u8, exists: bool) -> bool
 pub fn look_at(r: &[u8]) -> Look
     ensures { λ k. ⌜ LookAt (now (r .entry)) k ⌝ }
 {
-    if r.len() != 120 {
+    if r.len() != RECORD {
         return Look {
             unknown: true,
             kind: 7,
@@ -263,10 +275,10 @@ pub fn look_at(r: &[u8]) -> Look
 pub fn same_key(a: &[u8], b: &[u8]) -> bool
     ensures { λ t. ⌜ SameKey (now (a .entry)) (now (b .entry)) t ⌝ }
 {
-    if a.len() != 120 {
+    if a.len() != RECORD {
         return false;
     }
-    if b.len() != 120 {
+    if b.len() != RECORD {
         return false;
     }
     zones::same(&a[2..7], &b[2..7])
@@ -279,10 +291,10 @@ pub fn same_key(a: &[u8], b: &[u8]) -> bool
 pub fn same_front(a: &[u8], b: &[u8]) -> bool
     ensures { λ t. ⌜ SameFront (now (a .entry)) (now (b .entry)) t ⌝ }
 {
-    if a.len() != 120 {
+    if a.len() != RECORD {
         return false;
     }
-    if b.len() != 120 {
+    if b.len() != RECORD {
         return false;
     }
     zones::same(&a[2..40], &b[2..40])

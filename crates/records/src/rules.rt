@@ -1,6 +1,7 @@
 // The rules that look at the state between two records, on numbers: the records of the open statement so far (0 where none is open), and its
 // movement (0 none, 1 without an MMO, 2 with one).
 ghost use Rattle.records.specs.Answers.{Misplaced, SecondMmo, Misdated, SameBalance, Unsummed, TooLong};
+use crate::MOST_IN_STATEMENT;
 
 // 7: record out of place.
 pub fn misplaced(size: u64, movement: u8, kind: u8) -> bool
@@ -40,5 +41,5 @@ pub fn unsummed(size: u64, kind: u8, same: bool) -> bool
 pub fn too_long(size: u64) -> bool
     ensures { λ t. ⌜ TooLong size t ⌝ }
 {
-    (size != 0) & (9999 <= size)
+    (size != 0) & (MOST_IN_STATEMENT <= size)
 }
