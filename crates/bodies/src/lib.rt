@@ -8,6 +8,7 @@ ghost use Rattle.framing.specs.Files.{chunks, piecesOf, plain};
 ghost use Rattle.bodies.specs.Bodies.{kept, sameRecord, sameRows, keptRows};
 ghost use Rattle.bodies.specs.Answers.{IsSingle, SameRecords, ClosingOf, PutBody};
 use framing::Form;
+use records::RECORD;
 use statements::Checked;
 
 // Whether a debit zero stands in 91-104 of a record that is no 05. Most records are told by their last digit alone.
@@ -25,10 +26,10 @@ fn has_debit_zero(r: &[u8]) -> bool
 fn no_debit_zero(body: &[u8]) -> bool
     ensures { λ t. ⌜ t ≡ noDebitZero (piecesOf recordSize plain (now (body .entry))) ⌝ }
 {
-    let mut left = body.len() / 120;
+    let mut left = body.len() / RECORD;
     let mut p: usize = 0;
     while 0 < left {
-        let z = p + 120;
+        let z = p + RECORD;
         if has_debit_zero(&body[p..z]) {
             return false;
         }
@@ -77,8 +78,8 @@ fn same_record(a: &[u8], b: &[u8]) -> bool
     if !has_debit_zero(a) & !has_debit_zero(b) {
         return false;
     }
-    let mut x = [0u8; 120];
-    let mut y = [0u8; 120];
+    let mut x = [0u8; RECORD];
+    let mut y = [0u8; RECORD];
     put_record(&mut x, a);
     put_record(&mut y, b);
     zones::same(&x, &y)
@@ -86,15 +87,15 @@ fn same_record(a: &[u8], b: &[u8]) -> bool
 
 // So many records of one part and of another, v and w bytes from one to the next.
 fn same_rows(a: &[u8], v: usize, b: &[u8], w: usize, count: usize) -> bool
-    requires { ⌜ (120 ≤ v) × (120 ≤ w) × (count * v ≤ length (now a)) × (count * w ≤ length (now b)) ⌝ }
+    requires { ⌜ (recordSize ≤ v) × (recordSize ≤ w) × (count * v ≤ length (now a)) × (count * w ≤ length (now b)) ⌝ }
     ensures { λ t. ⌜ t ≡ sameRows (chunks v count (now (a .entry))) (chunks w count (now (b .entry))) ⌝ }
 {
     let mut left = count;
     let mut p: usize = 0;
     let mut q: usize = 0;
     while 0 < left {
-        let y = p + 120;
-        let z = q + 120;
+        let y = p + RECORD;
+        let z = q + RECORD;
         if !same_record(&a[p..y], &b[q..z]) {
             return false;
         }
@@ -115,8 +116,8 @@ pub fn same_records(f: Form, a: &[u8], g: Form, b: &[u8]) -> bool
     if 2 < g.line_end {
         return false;
     }
-    let v = 120 + f.line_end as usize;
-    let w = 120 + g.line_end as usize;
+    let v = RECORD + f.line_end as usize;
+    let w = RECORD + g.line_end as usize;
     let count = a.len() / v;
     if b.len() / w != count {
         return false;
@@ -131,7 +132,7 @@ pub fn closing_of(form: Form, part: &[u8]) -> &[u8]
     if 2 < form.line_end {
         return &part[..0];
     }
-    let width = 120 + form.line_end as usize;
+    let width = RECORD + form.line_end as usize;
     if part.len() < width {
         return &part[..0];
     }
@@ -146,9 +147,9 @@ fn put_rows(dst: &mut [u8], part: &[u8], width: usize, count: usize)
     let mut i: usize = 0;
     let mut p: usize = 0;
     while i < count {
-        let a = 120 * i;
-        let z = a + 120;
-        let e = p + 120;
+        let a = RECORD * i;
+        let z = a + RECORD;
+        let e = p + RECORD;
         put_record(&mut dst[a..z], &part[p..e]);
         p += width;
         i += 1;
@@ -162,9 +163,9 @@ pub fn put_body(dst: &mut [u8], form: Form, part: &[u8])
     if 2 < form.line_end {
         return;
     }
-    let width = 120 + form.line_end as usize;
+    let width = RECORD + form.line_end as usize;
     let count = part.len() / width;
-    if dst.len() / 120 < count {
+    if dst.len() / RECORD < count {
         return;
     }
     put_rows(dst, part, width, count);

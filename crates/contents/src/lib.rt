@@ -12,6 +12,8 @@ use fields::Movement;
 use framing::Form;
 use grammar::Key;
 use readers::Place;
+use records::RECORD;
+use records::TEXT;
 use statements::Checked;
 
 // The account key, both dates and both balances.
@@ -43,7 +45,7 @@ pub struct MovementAnswer {
 pub struct ComplementAnswer {
     pub number: u64,
     pub record: u64,
-    pub text: [u8; 73],
+    pub text: [u8; TEXT],
 }
 
 // The earliest old balance date of a file's statements, 0 where it has none, or the number and the record of a refusal.
@@ -56,13 +58,13 @@ pub enum Beginning {
 pub fn record_at(file: &[u8], at: usize) -> &[u8]
     ensures { λ r. ⌜ RecordAt (now (file .entry)) at (now r) ⌝ }
 {
-    if file.len() < 120 {
+    if file.len() < RECORD {
         return &file[..0];
     }
-    if file.len() - 120 < at {
+    if file.len() - RECORD < at {
         return &file[..0];
     }
-    let e = at + 120;
+    let e = at + RECORD;
     &file[at..e]
 }
 
@@ -121,7 +123,7 @@ fn head_in(form: Form, part: &[u8]) -> HeadAnswer
     requires { ⌜ Single form (now part) ⌝ }
     ensures { λ h. ⌜ ((s : Statement) → Reads (codingOf form) form (now (part .entry)) (s ∷ []) → h ≡ headAmong s) ⌝ }
 {
-    let width = 120 + form.line_end as usize;
+    let width = RECORD + form.line_end as usize;
     let last = part.len() - width;
     HeadAnswer {
         number: 0,
@@ -174,7 +176,7 @@ fn movement_place(form: Form, part: &[u8], i: u64) -> usize
     if movements_in(form, part) < i {
         return 0;
     }
-    let width = 120 + form.line_end as usize;
+    let width = RECORD + form.line_end as usize;
     after_movements(form, part, width, i - 1)
 }
 
@@ -221,7 +223,7 @@ fn no_complement(number: u64, at: u64) -> ComplementAnswer
     ComplementAnswer {
         number,
         record: at,
-        text: [0u8; 73],
+        text: [0u8; TEXT],
     }
 }
 
@@ -237,9 +239,9 @@ fn complement_in(form: Form, part: &[u8], i: u64, j: u64) -> ComplementAnswer
     if (j == 0) | (step.complements < j) {
         return no_complement(17, 0);
     }
-    let width = 120 + form.line_end as usize;
+    let width = RECORD + form.line_end as usize;
     let r = record_at(part, at + j as usize * width);
-    let mut text = [0u8; 73];
+    let mut text = [0u8; TEXT];
     zones::put(&mut text, &r[45..118]);
     ComplementAnswer {
         number: 0,

@@ -7,6 +7,19 @@ ghost use Rattle.records.specs.July.{recordSize};
 ghost use Rattle.entries.specs.Entries.{entrySize, rowSize, keyText, datesText, placeText, fieldsOf, rowOf};
 ghost use Rattle.entries.specs.Answers.{PutEntry, EntryAt, PutRow, BodyAt};
 use dates::Date;
+use records::RECORD;
+
+// The most entries of a journal.
+pub const MOST_ENTRIES: usize = 128;
+
+// The bytes of an entry.
+pub const ENTRY: usize = 60;
+
+// The bytes of the table of contents: body lines begin behind it.
+pub const TABLE: usize = MOST_ENTRIES * ENTRY;
+
+// The bytes of a row: what an entry says of its statement.
+pub const ROW: usize = 41;
 
 // Whether an entry is used, its body's first line, and its number of records.
 pub struct Entry {
@@ -50,13 +63,13 @@ fn put_place(dst: &mut [u8], first: usize, records: usize)
 pub fn put_entry(dst: &mut [u8], first: usize, records: usize, opening: &[u8], closing: &[u8])
     ensures { λ _. ⌜ PutEntry first records (now (opening .entry)) (now (closing .entry)) (now (dst .entry)) (now (dst .exit)) ⌝ }
 {
-    if dst.len() != 60 {
+    if dst.len() != ENTRY {
         return;
     }
-    if opening.len() != 120 {
+    if opening.len() != RECORD {
         return;
     }
-    if closing.len() != 120 {
+    if closing.len() != RECORD {
         return;
     }
     put_key(&mut dst[0..25], opening);
@@ -85,11 +98,11 @@ pub fn entry_at(journal: &[u8], e: usize) -> Entry
         first: 0,
         records: 0,
     };
-    if 128 <= e {
+    if MOST_ENTRIES <= e {
         return none;
     }
-    let a = 60 * e;
-    let z = a + 60;
+    let a = ENTRY * e;
+    let z = a + ENTRY;
     if journal.len() < z {
         return none;
     }
@@ -120,14 +133,14 @@ fn put_fields(dst: &mut [u8], x: &[u8])
 pub fn put_row(dst: &mut [u8], journal: &[u8], e: usize)
     ensures { λ _. ⌜ PutRow (now (journal .entry)) e (now (dst .entry)) (now (dst .exit)) ⌝ }
 {
-    if dst.len() != 41 {
+    if dst.len() != ROW {
         return;
     }
-    if 128 <= e {
+    if MOST_ENTRIES <= e {
         return;
     }
-    let a = 60 * e;
-    let z = a + 60;
+    let a = ENTRY * e;
+    let z = a + ENTRY;
     if journal.len() < z {
         return;
     }
@@ -142,8 +155,8 @@ pub fn body_at(journal: &[u8], e: usize) -> &[u8]
     if !x.used {
         return &journal[..0];
     }
-    let a = 7680 + 120 * x.first;
-    let z = a + 120 * x.records;
+    let a = TABLE + RECORD * x.first;
+    let z = a + RECORD * x.records;
     if journal.len() < z {
         return &journal[..0];
     }

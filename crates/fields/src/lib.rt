@@ -11,6 +11,7 @@ ghost use Rattle.fields.specs.Answers.{KeyAt, RowAt, ValuedAt};
 use amounts::Amount;
 use dates::Date;
 use grammar::Key;
+use records::RECORD;
 
 // A movement: what its 04 says, and the number of its complements.
 #[repr(C)]
@@ -43,7 +44,7 @@ pub fn key_at(r: &[u8]) -> Key
     let mut branch = [0u8; 5];
     let mut currency = [0u8; 3];
     let mut account = [0u8; 11];
-    if r.len() != 120 {
+    if r.len() != RECORD {
         return Key {
             bank,
             branch,
@@ -119,7 +120,7 @@ pub fn row_at(r: &[u8], complements: u64) -> Movement
     let mut reject = [0u8; 2];
     let mut label = [0u8; 31];
     let mut reference = [0u8; 16];
-    if r.len() != 120 {
+    if r.len() != RECORD {
         return no_row();
     }
     zones::put(&mut internal, &r[7..11]);
@@ -147,7 +148,7 @@ pub fn row_at(r: &[u8], complements: u64) -> Movement
 pub fn valued_at(r: &[u8]) -> Valued
     ensures { λ m. ⌜ ValuedAt (now (r .entry)) m ⌝ }
 {
-    if r.len() != 120 {
+    if r.len() != RECORD {
         return Valued {
             value: 0,
             amount: 0,

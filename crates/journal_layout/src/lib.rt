@@ -8,8 +8,18 @@ ghost use Rattle.entries.specs.Entries.{mostEntries, entrySize, tableSize, line
 ghost use Rattle.journal_layout.specs.Layout.{mostLines, isLength};
 ghost use Rattle.journal_layout.specs.Test.{fitsIn, restBlank, walkIn, unusedFrom};
 ghost use Rattle.journal_layout.specs.Answers.{Later, FollowsOn, Judged, Sound, FirstFree, UsedOf, Opens, EntryPlace, ListedPlace, EntryBody};
+use entries::ENTRY;
+use entries::MOST_ENTRIES;
+use entries::TABLE;
 use framing::Form;
 use readers::Place;
+use records::RECORD;
+
+// The most body lines of a journal.
+pub const MOST_LINES: usize = 100000;
+
+// The bytes of the longest journal.
+const MOST_BYTES: usize = TABLE + RECORD * MOST_LINES;
 
 // A statement beside the held ones: held itself, the first of its account, or after another, whose new date and new balance these are.
 pub enum Judgement {
@@ -84,7 +94,7 @@ pub fn judged(journal: &[u8], count: usize, form: Form, s: &[u8]) -> Judgement
 fn is_entry(x: &[u8], first: usize, records: usize, opening: &[u8], closing: &[u8]) -> bool
     ensures { λ t. ⌜ t ≡ sameBytes (now (x .entry)) (entryPut first records (now (opening .entry)) (now (closing .entry)) (replicate entrySize 32)) ⌝ }
 {
-    let mut want = [b' '; 60];
+    let mut want = [b' '; ENTRY];
     entries::put_entry(&mut want, first, records, opening, closing);
     zones::same(x, &want)
 }
@@ -94,16 +104,16 @@ fn fits(journal: &[u8], e: usize, k: usize, n: usize) -> bool
     requires { ⌜ (e < mostEntries) × (lineAt k + recordSize * n ≤ length (now journal)) ⌝ }
     ensures { λ t. ⌜ t ≡ fitsIn (now (journal .entry)) e k n ⌝ }
 {
-    let a = 7680 + 120 * k;
-    let z = a + 120 * n;
+    let a = TABLE + RECORD * k;
+    let z = a + RECORD * n;
     let s = &journal[a..z];
     if !bodies::is_single(s) {
         return false;
     }
     let opening = contents::record_at(s, 0);
     let closing = bodies::closing_of(Form { line_end: 0 }, s);
-    let b = 60 * e;
-    let y = b + 60;
+    let b = ENTRY * e;
+    let y = b + ENTRY;
     if !is_entry(&journal[b..y], k, n, opening, closing) {
         return false;
     }
@@ -120,9 +130,9 @@ fn rest_blank(journal: &[u8], e: usize, k: usize) -> bool
     requires { ⌜ (e ≤ mostEntries) × (lineAt k ≤ length (now journal)) ⌝ }
     ensures { λ t. ⌜ t ≡ restBlank (now (journal .entry)) e k ⌝ }
 {
-    let a = 60 * e;
-    let b = 7680 + 120 * k;
-    zones::blanks(&journal[a..7680]) & zones::blanks(&journal[b..])
+    let a = ENTRY * e;
+    let b = TABLE + RECORD * k;
+    zones::blanks(&journal[a..TABLE]) & zones::blanks(&journal[b..])
 }
 
 // The entries one after another. The body of entry e begins at line k.
@@ -132,13 +142,13 @@ fn walk(journal: &[u8]) -> bool
 {
     let mut e: usize = 0;
     let mut k: usize = 0;
-    while e < 128 {
+    while e < MOST_ENTRIES {
         let x = entries::entry_at(journal, e);
         if !x.used {
             return rest_blank(journal, e, k);
         }
         let n = x.records;
-        if journal.len() < 7680 + 120 * k + 120 * n {
+        if journal.len() < TABLE + RECORD * k + RECORD * n {
             return false;
         }
         if !fits(journal, e, k, n) {
@@ -153,7 +163,7 @@ fn walk(journal: &[u8]) -> bool
 fn is_length(n: usize) -> bool
     ensures { λ t. ⌜ t ≡ isLength n ⌝ }
 {
-    (7680 <= n) & (n <= 12007680) & (n % 120 == 0)
+    (TABLE <= n) & (n <= MOST_BYTES) & (n % RECORD == 0)
 }
 
 // Whether a journal is sound. Linear in its bytes, and in the comparisons of each body with those before it.
@@ -170,7 +180,7 @@ fn first_unused(journal: &[u8]) -> usize
     ensures { λ e. ⌜ e ≡ unusedFrom mostEntries 0 (now (journal .entry)) ⌝ }
 {
     let mut e: usize = 0;
-    while e < 128 {
+    while e < MOST_ENTRIES {
         let x = entries::entry_at(journal, e);
         if !x.used {
             return e;
@@ -209,7 +219,7 @@ pub fn used(journal: &[u8]) -> Usage
     Usage::Counted {
         entries: free.entry as u64,
         used: free.line as u64,
-        lines: ((journal.len() - 7680) / 120) as u64,
+        lines: ((journal.len() - TABLE) / RECORD) as u64,
     }
 }
 
@@ -261,8 +271,8 @@ pub fn entry_place(journal: &[u8], e: u64) -> Place
         };
     }
     Place::At {
-        first: 7680 + 120 * x.first,
-        len: 120 * x.records,
+        first: TABLE + RECORD * x.first,
+        len: RECORD * x.records,
     }
 }
 
@@ -289,8 +299,8 @@ pub fn listed_place(journal: &[u8], e: u64) -> Place
             record: 0,
         };
     }
-    let first = 7680 + 120 * x.first;
-    let len = 120 * x.records;
+    let first = TABLE + RECORD * x.first;
+    let len = RECORD * x.records;
     if journal.len() < first + len {
         return Place::Refused {
             number: 25,

@@ -10,6 +10,7 @@ ghost use Rattle.readers.specs.Places.{endIn, endsAfter, Fits};
 ghost use Rattle.readers.specs.Steps.{stepOver};
 ghost use Rattle.readers.specs.Answers.{StatementEnd, StatementPlace, StatementPart, MovementStep};
 use framing::Form;
+use records::RECORD;
 use statements::Checked;
 
 // The first byte and the length of a statement in its file, or the number and the record of a refusal.
@@ -61,7 +62,7 @@ pub fn statement_end(form: Form, file: &[u8], at: usize) -> usize
     if file.len() <= at {
         return file.len();
     }
-    let width = 120 + form.line_end as usize;
+    let width = RECORD + form.line_end as usize;
     let count = (file.len() - at) / width;
     closing_end(file, width, count, at)
 }
@@ -169,7 +170,7 @@ pub fn movement_step(part: &[u8], form: Form, at: usize) -> Step
     if part.len() <= at {
         return none;
     }
-    let width = 120 + form.line_end as usize;
+    let width = RECORD + form.line_end as usize;
     let count = (part.len() - at) / width;
     if count == 0 {
         return none;

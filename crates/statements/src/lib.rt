@@ -16,6 +16,8 @@ ghost use Rattle.statements.specs.Answers.{checkedOf, Check};
 use framing::Form;
 use framing::Frame;
 use records::Look;
+use records::MOST_IN_FILE;
+use records::RECORD;
 use records::rules;
 
 // What a file holds, or the number and the record of its refusal.
@@ -145,14 +147,14 @@ impl Progress {
         }
         if kind != 5 {
             let o = self.opening;
-            let p = o + 120;
+            let p = o + RECORD;
             return !records::same_key(&file[o..p], r);
         }
         if self.movement == 0 {
             return false;
         }
         let m = self.mark;
-        let q = m + 120;
+        let q = m + RECORD;
         !records::same_front(&file[m..q], r)
     }
 
@@ -161,7 +163,7 @@ impl Progress {
         requires { ⌜ Fit form (length (now file)) (length (now piece)) self × (k ≡ lookOf (take recordSize (now piece))) ⌝ }
         ensures { λ n. ⌜ n ≡ judgeOf (files (codingOf form) form) (stateOf (now (file .entry)) self) (now (piece .entry)) ⌝ }
     {
-        if framing::wrong_end(form, &piece[120..]) {
+        if framing::wrong_end(form, &piece[RECORD..]) {
             return 4;
         }
         if !k.permitted {
@@ -179,7 +181,7 @@ impl Progress {
         if k.undated {
             return 9;
         }
-        if self.differs(file, &piece[0..120], k.kind) {
+        if self.differs(file, &piece[0..RECORD], k.kind) {
             return 10;
         }
         if rules::second_mmo(self.size, self.movement, k.kind, k.mmo) {
@@ -267,7 +269,7 @@ fn scan(form: Form, width: usize, count: usize, file: &[u8]) -> Checked
     while i < count {
         let e = at + width;
         let piece = &file[at..e];
-        let k = records::look_at(&piece[0..120]);
+        let k = records::look_at(&piece[0..RECORD]);
         let number = p.judge(form, file, piece, k);
         if number != 0 {
             return Checked::Refused {
@@ -297,7 +299,7 @@ fn scan(form: Form, width: usize, count: usize, file: &[u8]) -> Checked
 pub fn check(form: Form, file: &[u8]) -> Checked
     ensures { λ r. ⌜ Check form (now (file .entry)) r ⌝ }
 {
-    match framing::cut(form, 120, 20000, file) {
+    match framing::cut(form, RECORD as u16, MOST_IN_FILE, file) {
         Frame::Refused(number) => Checked::Refused { number, record: 0 },
         Frame::Records { width, count } => scan(form, width, count, file),
     }

@@ -12,6 +12,8 @@ ghost use Rattle.writing.specs.Groups.{bankText, accountText, frontText,
 ghost use Rattle.writing.specs.Answers.{BalanceFits, RowFits, TextFits, IsMmo, PutOpening, PutClosing, PutMovement, PutComplement};
 use fields::Movement;
 use grammar::Key;
+use records::RECORD;
+use records::TEXT;
 
 fn is_digit(b: u8) -> bool
     ensures { λ r. ⌜ r ≡ inClass digit b ⌝ }
@@ -94,7 +96,7 @@ fn plain_fits(text: &[u8]) -> bool
 pub fn text_fits(text: &[u8]) -> bool
     ensures { λ r. ⌜ TextFits (now (text .entry)) r ⌝ }
 {
-    if text.len() != 73 {
+    if text.len() != TEXT {
         return false;
     }
     if is_mmo(text) {
@@ -150,7 +152,7 @@ fn put_balance(out: &mut [u8], code: u8, key: Key, date: u32, amount: i64)
 pub fn put_opening(out: &mut [u8], key: Key, date: u32, amount: i64)
     ensures { λ _. ⌜ PutOpening key date amount (now (out .entry)) (now (out .exit)) ⌝ }
 {
-    if out.len() != 120 {
+    if out.len() != RECORD {
         return;
     }
     if !balance_fits(key, date, amount) {
@@ -163,7 +165,7 @@ pub fn put_opening(out: &mut [u8], key: Key, date: u32, amount: i64)
 pub fn put_closing(out: &mut [u8], key: Key, date: u32, amount: i64)
     ensures { λ _. ⌜ PutClosing key date amount (now (out .entry)) (now (out .exit)) ⌝ }
 {
-    if out.len() != 120 {
+    if out.len() != RECORD {
         return;
     }
     if !balance_fits(key, date, amount) {
@@ -198,7 +200,7 @@ fn put_last(out: &mut [u8], m: Movement)
 pub fn put_movement(out: &mut [u8], key: Key, m: Movement)
     ensures { λ _. ⌜ PutMovement key m (now (out .entry)) (now (out .exit)) ⌝ }
 {
-    if out.len() != 120 {
+    if out.len() != RECORD {
         return;
     }
     if !row_fits(key, m) {
@@ -216,7 +218,7 @@ pub fn put_movement(out: &mut [u8], key: Key, m: Movement)
 pub fn put_complement(out: &mut [u8], key: Key, m: Movement, text: &[u8])
     ensures { λ _. ⌜ PutComplement key m (now (text .entry)) (now (out .entry)) (now (out .exit)) ⌝ }
 {
-    if out.len() != 120 {
+    if out.len() != RECORD {
         return;
     }
     if !(row_fits(key, m) & text_fits(text)) {

@@ -6,6 +6,9 @@ use borrow.Author.Needs.{needs}
 use Rattle.statements.proofs.check.Statement.{statement}
 use Rattle.statements.proofs.check.Tie as tie
 
+cast-cut : tie.Need-cast-cut
+cast-cut c = search needs
+
 cut-requires : tie.Need-cut-requires
 cut-requires c κs = search needs
 
@@ -27,4 +30,4 @@ returns-2 c = checks (c .scan .ensures ∙ sym (ap checkedOf (framed (c .before 
 pub check-spec : {M : Type 1} → statement M
 check-spec =
     tie.close
-    (tie.spec cut-requires enum-known-number enum-known-width scan-requires returns returns-2)
+    (tie.spec cast-cut cut-requires enum-known-number enum-known-width scan-requires returns returns-2)
