@@ -1,8 +1,21 @@
 // The check run on kept files, and on large ones made here. `stdout` has what the independent implementation answered on the same files.
 ghost use Prim.Native.Nat.{_≤_};
+ghost use Rattle.records.specs.July.{mostInFile};
 use framing::Form;
 use libc::STDOUT_FILENO;
+use records::MOST_IN_FILE;
+use records::MOST_IN_STATEMENT;
+use records::RECORD;
 use statements::Checked;
+
+// The most records of a file.
+const FILE: usize = MOST_IN_FILE as usize;
+
+// The most records of a statement.
+const STATEMENT: usize = MOST_IN_STATEMENT as usize;
+
+// The bytes of a file with one record more than the most.
+const BIG: usize = (FILE + 1) * RECORD;
 
 fn word(text: &[u8]) {
     io::write_all(STDOUT_FILENO, text);
@@ -61,9 +74,9 @@ fn kept(k: usize) -> bool {
 }
 
 // A record at its place in a large file, counted from 0.
-fn put_record(big: &mut [u8], i: usize, record: &[u8; 120]) {
-    if i < 20001 {
-        let at = i * 120;
+fn put_record(big: &mut [u8], i: usize, record: &[u8; RECORD]) {
+    if i <= FILE {
+        let at = i * RECORD;
         if at <= big.len() {
             zones::put(&mut big[at..], record);
         }
@@ -114,7 +127,7 @@ fn put_movements(big: &mut [u8], count: usize) {
 
 // Statements without movements, end to end.
 fn put_statements(big: &mut [u8], count: usize)
-    requires { ⌜ count ≤ 20000 ⌝ }
+    requires { ⌜ count ≤ mostInFile ⌝ }
 {
     let mut i: usize = 0;
     while i < count {
@@ -125,8 +138,8 @@ fn put_statements(big: &mut [u8], count: usize)
 }
 
 fn report_big(name: &[u8], big: &[u8], records: usize) {
-    if records <= 20001 {
-        let end = records * 120;
+    if records <= FILE + 1 {
+        let end = records * RECORD;
         if end <= big.len() {
             report(name, 0, &big[0..end]);
         }
@@ -135,29 +148,29 @@ fn report_big(name: &[u8], big: &[u8], records: usize) {
 
 // The most records of a file, and one more.
 fn file_cases(big: &mut [u8]) {
-    put_statements(big, 10001);
-    report_big(b"records-20000", big, 20000);
-    report_big(b"records-20001", big, 20001);
-    report_big(b"records-19999-open", big, 19999);
+    put_statements(big, FILE / 2 + 1);
+    report_big(b"records-20000", big, FILE);
+    report_big(b"records-20001", big, FILE + 1);
+    report_big(b"records-19999-open", big, FILE - 1);
 }
 
 // The most records of a statement.
 fn statement_cases(big: &mut [u8]) {
-    put_movements(big, 9997);
-    put_closing(big, 9998);
-    report_big(b"statement-9999", big, 9999);
-    put_movement(big, 9998);
-    report_big(b"statement-9999-no-07", big, 9999);
+    put_movements(big, STATEMENT - 2);
+    put_closing(big, STATEMENT - 1);
+    report_big(b"statement-9999", big, STATEMENT);
+    put_movement(big, STATEMENT - 1);
+    report_big(b"statement-9999-no-07", big, STATEMENT);
 }
 
 // A record that would be one too many.
 fn last_cases(big: &mut [u8]) {
-    put_closing(big, 9999);
-    report_big(b"10000th-is-07", big, 10000);
-    put_wrong_closing(big, 9999);
-    report_big(b"10000th-07-sum-wrong", big, 10000);
-    put_opening(big, 9999);
-    report_big(b"10000th-is-01", big, 10000);
+    put_closing(big, STATEMENT);
+    report_big(b"10000th-is-07", big, STATEMENT + 1);
+    put_wrong_closing(big, STATEMENT);
+    report_big(b"10000th-07-sum-wrong", big, STATEMENT + 1);
+    put_opening(big, STATEMENT);
+    report_big(b"10000th-is-01", big, STATEMENT + 1);
 }
 
 fn big_cases(big: &mut [u8]) {
@@ -166,7 +179,7 @@ fn big_cases(big: &mut [u8]) {
     last_cases(big);
 }
 
-fn large(big: &mut [u8; 2400120]) {
+fn large(big: &mut [u8; BIG]) {
     big_cases(big);
 }
 
@@ -175,6 +188,6 @@ fn main() {
     while k < 1000 && kept(k) {
         k += 2;
     }
-    let mut big = [32u8; 2400120];
+    let mut big = [32u8; BIG];
     large(&mut big);
 }

@@ -5,10 +5,14 @@ use framing::Form;
 use grammar::Key;
 use libc::STDIN_FILENO;
 use libc::STDOUT_FILENO;
+use records::RECORD;
 use statements::Checked;
 
-// The most bytes that are listed: 540 records of 121.
-const MOST: usize = 65340;
+// The bytes of a record with its line end.
+const LINE: usize = RECORD + 1;
+
+// The most bytes that are listed: 540 records.
+const MOST: usize = 540 * LINE;
 
 fn lf() -> Form {
     Form { line_end: 1 }
@@ -99,7 +103,7 @@ fn statement_line(h: Head, movements: u64) {
 
 // The lines of a statement's movements. They begin after its 01.
 fn movement_lines(part: &[u8]) {
-    let mut at: usize = 121;
+    let mut at: usize = LINE;
     while at < part.len() {
         let step = readers::movement_step(part, lf(), at);
         if !step.found {
@@ -153,7 +157,7 @@ fn answer(file: &[u8]) {
 }
 
 fn main() {
-    let mut buffer = [0u8; 65341];
+    let mut buffer = [0u8; MOST + 1];
     let n = io::read_full(STDIN_FILENO, &mut buffer);
     answer(&buffer[..n]);
 }

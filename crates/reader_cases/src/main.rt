@@ -8,10 +8,11 @@ use framing::Form;
 use grammar::Key;
 use libc::STDOUT_FILENO;
 use readers::Place;
+use records::MOST_IN_FILE;
 use statements::Checked;
 
-// A number of no statement, movement or complement: a file has 20,000 records at most.
-const NONE: u64 = 1000000;
+// A number of no statement, movement or complement: one more than a file has records.
+const NONE: u64 = MOST_IN_FILE as u64 + 1;
 
 fn word(text: &[u8]) {
     io::write_all(STDOUT_FILENO, text);

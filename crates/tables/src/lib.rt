@@ -8,6 +8,7 @@ ghost use Rattle.tables.specs.Answers.{Movements};
 use fields::Movement;
 use framing::Form;
 use readers::Place;
+use records::RECORD;
 
 // The number of movements, which is that of the rows filled; or, with a refusal's number and record, 0.
 #[repr(C)]
@@ -78,7 +79,7 @@ fn plan_of(form: Form, file: &[u8], k: u64, table: usize) -> Plan
                 },
                 first,
                 end,
-                at: 120 + form.line_end as usize,
+                at: RECORD + form.line_end as usize,
                 rows: n as usize,
             }
         }

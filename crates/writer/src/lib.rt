@@ -12,6 +12,12 @@ ghost use Rattle.writer.specs.Answers.{WriteStatement};
 use contents::Head;
 use fields::Movement;
 use grammar::Key;
+use records::MOST_IN_STATEMENT;
+use records::RECORD;
+use records::TEXT;
+
+// The bytes of the 01 and the 07, which every statement has.
+const ENDS: usize = 2 * RECORD;
 
 // The number of bytes written; or, with a refusal's number, 0.
 #[repr(C)]
@@ -44,8 +50,8 @@ fn texts_fit(texts: &[u8], n: usize) -> bool
     let mut seen = false;
     let mut i = 0;
     while i < n {
-        let a = i * 73;
-        let z = a + 73;
+        let a = i * TEXT;
+        let z = a + TEXT;
         let mmo = writing::is_mmo(&texts[a..z]);
         ok = ok & (writing::text_fits(&texts[a..z]) & !(seen & mmo));
         seen = seen | mmo;
@@ -89,7 +95,7 @@ fn booked_within(head: Head, m: Movement) -> bool
 fn reckoned(s: Tally, m: Movement, len: usize) -> bool
     ensures { λ r. ⌜ r ≡ reckonedOf s m len ⌝ }
 {
-    ((s.records <= 9999) & (m.complements <= 9999))
+    ((s.records <= MOST_IN_STATEMENT) & (m.complements <= MOST_IN_STATEMENT))
         & ((amounts::absolute(s.balance) <= 1000000000000000000) & (s.from <= len))
 }
 
@@ -104,9 +110,9 @@ fn tally_row(head: Head, s: Tally, m: Movement, complements: &[u8]) -> Tally
     }
     let n = m.complements as usize;
     let from = s.from;
-    let size = n * 73;
+    let size = n * TEXT;
     let records = s.records + 1 + m.complements;
-    if !((records <= 9999) & (size <= len - from)) {
+    if !((records <= MOST_IN_STATEMENT) & (size <= len - from)) {
         return stopped(s);
     }
     let end = from + size;
@@ -125,7 +131,7 @@ fn tally_row(head: Head, s: Tally, m: Movement, complements: &[u8]) -> Tally
 fn plan(head: Head, s: Tally, len: usize, room: usize) -> WriteAnswer
     ensures { λ r. ⌜ r ≡ planOf head s len room ⌝ }
 {
-    if !((s.fits & (s.records <= 9999))
+    if !((s.fits & (s.records <= MOST_IN_STATEMENT))
         & ((s.from == len) & records::rules::same_balance(s.balance, head.new_balance))) {
         return WriteAnswer {
             number: 19,
@@ -133,7 +139,7 @@ fn plan(head: Head, s: Tally, len: usize, room: usize) -> WriteAnswer
             bytes: 0,
         };
     }
-    let bytes = s.records as usize * 120;
+    let bytes = s.records as usize * RECORD;
     if room < bytes {
         return WriteAnswer {
             number: 20,
@@ -155,10 +161,10 @@ fn put_texts(out: &mut [u8], key: Key, m: Movement, n: usize, texts: &[u8])
 {
     let mut i = 0;
     while i < n {
-        let a = i * 120;
-        let z = a + 120;
-        let b = i * 73;
-        let y = b + 73;
+        let a = i * RECORD;
+        let z = a + RECORD;
+        let b = i * TEXT;
+        let y = b + TEXT;
         writing::put_complement(&mut out[a..z], key, m, &texts[b..y]);
         i += 1;
     }
@@ -169,15 +175,15 @@ fn put_group(out: &mut [u8], key: Key, m: Movement, texts: &[u8])
     requires { ⌜ (length (now out) ≡ groupSize m) × (length (now texts) ≡ m .complements * textSize) ⌝ }
     ensures { λ _. ⌜ now (out .exit) ≡ groupPut key m (chunks textSize (m .complements) (now (texts .entry))) (now (out .entry)) ⌝ }
 {
-    writing::put_movement(&mut out[0..120], key, m);
-    put_texts(&mut out[120..], key, m, m.complements as usize, texts);
+    writing::put_movement(&mut out[0..RECORD], key, m);
+    put_texts(&mut out[RECORD..], key, m, m.complements as usize, texts);
 }
 
 // Whether a row's place can be reckoned without overflow.
 fn placed(bytes: usize, m: Movement, len: usize, room: usize, p: Spot) -> bool
     ensures { λ r. ⌜ r ≡ placedOf bytes m len room p ⌝ }
 {
-    ((m.complements <= 9999) & (bytes <= room)) & ((p.at <= bytes) & (p.from <= len))
+    ((m.complements <= MOST_IN_STATEMENT) & (bytes <= room)) & ((p.at <= bytes) & (p.from <= len))
 }
 
 // A row with its complements, where there is room for it; and where the next one stands.
@@ -192,8 +198,8 @@ fn put_row(out: &mut [u8], bytes: usize, key: Key, m: Movement, complements: &[u
     let n = m.complements as usize;
     let at = p.at;
     let from = p.from;
-    let size = (1 + n) * 120;
-    let texts = n * 73;
+    let size = (1 + n) * RECORD;
+    let texts = n * TEXT;
     if !((size <= bytes - at) & (texts <= len - from)) {
         return p;
     }
@@ -210,11 +216,16 @@ fn put_row(out: &mut [u8], bytes: usize, key: Key, m: Movement, complements: &[u
 fn put_ends(out: &mut [u8], bytes: usize, head: Head)
     ensures { λ _. ⌜ now (out .exit) ≡ endsPut bytes head (now (out .entry)) ⌝ }
 {
-    if !((240 <= bytes) & (bytes <= out.len())) {
+    if !((ENDS <= bytes) & (bytes <= out.len())) {
         return;
     }
-    let last = bytes - 120;
-    writing::put_opening(&mut out[0..120], head.key, head.old_date, head.old_balance);
+    let last = bytes - RECORD;
+    writing::put_opening(
+        &mut out[0..RECORD],
+        head.key,
+        head.old_date,
+        head.old_balance,
+    );
     writing::put_closing(
         &mut out[last..bytes],
         head.key,
@@ -250,7 +261,10 @@ fn test_rows(head: Head, table: &[Movement], complements: &[u8]) -> Tally
 fn put_rows(out: &mut [u8], bytes: usize, key: Key, table: &[Movement], complements: &[u8])
     ensures { λ _. ⌜ now (out .exit) ≡ rowsPut bytes key (now (table .entry)) (now (complements .entry)) firstSpot (now (out .entry)) ⌝ }
 {
-    let mut p = Spot { at: 120, from: 0 };
+    let mut p = Spot {
+        at: RECORD,
+        from: 0,
+    };
     let mut i = 0;
     while i < table.len() {
         let m = table[i];
