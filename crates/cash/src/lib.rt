@@ -21,19 +21,16 @@ ghost use Rattle.cash.specs.Value.{movementsOf};
 ghost use Rattle.cash.specs.Buckets.{dated, datedIn, rowOf, bump, filled, running, opened};
 ghost use Rattle.cash.specs.Calls.{spanOf, firstFrom, Adding, Entering, Filling, Runs, Opening};
 ghost use Rattle.cash.specs.Answers.{Positions, PositionNumber, Balance, DayAfter};
+use dates::ALL_DAYS;
 use framing::Form;
 use journal::Holding;
+use records::RECORD;
 
 // Days of the longest span.
 const MOST_DAYS: u32 = 400;
 
-// The number of the last day of all, and what no day has for an ordinal: the number of all days.
+// The number of the last day of all.
 const LAST_DAY: u64 = 20791231;
-
-const ALL_DAYS: u32 = 36525;
-
-// Bytes of a record.
-const RECORD: usize = 120;
 
 // How many days were filled; or a refusal's number and record.
 pub enum Outcome {

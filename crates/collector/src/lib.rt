@@ -1,12 +1,17 @@
 // What the collector's host program calls. Each function answers one number that holds its whole answer, by `specs/Packing.antt`.
 ghost use Rattle.collector.specs.Answers.{CheckNumber, OpenNumber, DeliverNumber, EntryNumber, UsedNumber, ListedNumber, LengthNumber, EarliestNumber};
 use contents::Beginning;
+use entries::ROW;
+use entries::TABLE;
 use framing::Form;
 use framing::Frame;
 use journal::Delivery;
 use journal_layout::Opening;
 use journal_layout::Usage;
+use packing::BIT20;
 use readers::Place;
+use records::MOST_IN_FILE;
+use records::RECORD;
 use statements::Checked;
 
 // The numbers of statements, movements and complements of a file.
@@ -53,7 +58,7 @@ pub extern "C" fn crownhazel_entry(journal: &[u8], entry: u64) -> u64
 {
     match journal_layout::entry_place(journal, entry) {
         Place::At { first, len } => {
-            packing::answered((len / 120) as u64, ((first - 7680) / 120) as u64, 0)
+            packing::answered((len / RECORD) as u64, ((first - TABLE) / RECORD) as u64, 0)
         }
         Place::Refused { number, record } => packing::refused(number, record),
     }
@@ -81,11 +86,11 @@ pub extern "C" fn crownhazel_listed(journal: &[u8], entry: u64, row: &mut [u8]) 
 {
     match journal_layout::listed_place(journal, entry) {
         Place::At { first, len } => {
-            if row.len() < 41 {
+            if row.len() < ROW {
                 return packing::refused(20, 0);
             }
-            entries::put_row(&mut row[0..41], journal, (entry - 1) as usize);
-            packing::answered((len / 120) as u64, ((first - 7680) / 120) as u64, 0)
+            entries::put_row(&mut row[0..ROW], journal, (entry - 1) as usize);
+            packing::answered((len / RECORD) as u64, ((first - TABLE) / RECORD) as u64, 0)
         }
         Place::Refused { number, record } => packing::refused(number, record),
     }
@@ -96,7 +101,12 @@ pub extern "C" fn crownhazel_listed(journal: &[u8], entry: u64, row: &mut [u8]) 
 pub extern "C" fn crownhazel_length(line_end: u64, length: u64) -> u64
     ensures { λ r. ⌜ LengthNumber «line_end» length r ⌝ }
 {
-    match framing::cut_length(Form { line_end }, 120, 20000, length as usize) {
+    match framing::cut_length(
+        Form { line_end },
+        RECORD as u16,
+        MOST_IN_FILE,
+        length as usize,
+    ) {
         Frame::Records { width: _, count } => packing::answered(count as u64, 0, 0),
         Frame::Refused(number) => packing::refused(number, 0),
     }
@@ -108,9 +118,7 @@ pub extern "C" fn crownhazel_earliest(line_end: u64, file: &[u8]) -> u64
     ensures { λ r. ⌜ EarliestNumber «line_end» (now (file .entry)) r ⌝ }
 {
     match contents::earliest(Form { line_end }, file) {
-        Beginning::On { day } => {
-            packing::answered((day % 1048576) as u64, (day / 1048576) as u64, 0)
-        }
+        Beginning::On { day } => { packing::answered(day as u64 % BIT20, day as u64 / BIT20, 0) }
         Beginning::Refused { number, record } => packing::refused(number, record),
     }
 }

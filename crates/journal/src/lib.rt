@@ -18,11 +18,16 @@ ghost use Rattle.journal.specs.declared.Found.the-variants.{Refused};
 ghost use Rattle.journal.specs.Newest.{keySize, keyFrom, newestAmong, newestOf, isAccount, lastHeldFrom, lastPart};
 ghost use Rattle.journal.specs.Plans.{partsFrom, Inside, judgedIn, judgedAll, Reading, written, writtenAll, Deliverable, donePlan, refusedPlan, Storable, Planned, Judgeable, Turned, Searchable, Finds};
 ghost use Rattle.journal.specs.Answers.{Delivers, NewestPlace, NewestPart, Holds, BodyOf, OfAccount};
+use entries::TABLE;
 use framing::Form;
 use journal_layout::Free;
 use journal_layout::Judgement;
 use journal_layout::Usage;
+use records::RECORD;
 use statements::Checked;
+
+// The bytes of an account key: bank, branch, currency, decimals, account.
+pub const KEY: usize = 25;
 
 // Why a delivery is refused, and at which record.
 pub struct Refusal {
@@ -353,12 +358,12 @@ pub fn deliver(journal: &mut [u8], form: Form, file: &[u8]) -> Delivery
     plan.answer
 }
 
-// Whether a record's account is the one that 25 bytes name: bank, branch, currency, decimals, account.
+// Whether a record's account is the one that a key names.
 fn is_account(key: &[u8], opening: &[u8]) -> bool
     requires { ⌜ length (now key) ≡ keySize ⌝ }
     ensures { λ t. ⌜ t ≡ isAccount (now (key .entry)) (now (opening .entry)) ⌝ }
 {
-    if opening.len() != 120 {
+    if opening.len() != RECORD {
         return false;
     }
     zones::same(&opening[2..7], &key[0..5])
@@ -433,7 +438,7 @@ fn newest_planned(
     requires { ⌜ Searchable (now journal) form (now file) (now places) (now ends) count held ⌝ }
     ensures { λ r. ⌜ Finds (pick (eqb (length (now (key .entry))) keySize) (newestAmong form (keyFrom (now (key .entry))) (heldOf (now (journal .entry))) (statementsOf (codingOf form) form (now (file .entry)))) (Refused 25 0)) (now (journal .entry)) (now (file .entry)) r ⌝ }
 {
-    if key.len() != 25 {
+    if key.len() != KEY {
         return none_found();
     }
     let p = last_planned(file, places, ends, count, key);
@@ -452,8 +457,8 @@ fn newest_planned(
     }
     let x = entries::entry_at(journal, e - 1);
     Found::InJournal {
-        first: 7680 + 120 * x.first,
-        len: 120 * x.records,
+        first: TABLE + RECORD * x.first,
+        len: RECORD * x.records,
     }
 }
 
@@ -546,7 +551,7 @@ pub fn body(journal: &[u8], e: u64) -> &[u8]
 pub fn of_account(key: &[u8], body: &[u8]) -> bool
     ensures { λ r. ⌜ OfAccount (now (key .entry)) (now (body .entry)) r ⌝ }
 {
-    if key.len() != 25 {
+    if key.len() != KEY {
         return false;
     }
     is_account(key, contents::record_at(body, 0))

@@ -5,6 +5,7 @@ ghost use lib.ListN.{length};
 use framing::Form;
 use journal::Delivery;
 use journal::Found;
+use journal::KEY;
 use journal_layout::Opening;
 use libc::STDOUT_FILENO;
 use readers::Place;
@@ -128,14 +129,14 @@ fn deliver(journal: &mut [u8], form: Form, file: &[u8]) {
     end_line();
 }
 
-// A payload too short for a key of 25 bytes is all key.
+// A payload too short for a key is all key.
 fn key_size(payload: &[u8]) -> usize
     ensures { λ r. ⌜ r ≤ length (now (payload .entry)) ⌝ }
 {
-    if payload.len() < 25 {
+    if payload.len() < KEY {
         payload.len()
     } else {
-        25
+        KEY
     }
 }
 

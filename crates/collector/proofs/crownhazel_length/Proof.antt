@@ -8,6 +8,9 @@ use borrow.Author.Needs.{needs}
 use Rattle.collector.proofs.crownhazel_length.Statement.{statement}
 use Rattle.collector.proofs.crownhazel_length.Tie as tie
 
+cast-cut-length : tie.Need-cast-cut-length
+cast-cut-length c = search needs
+
 cut-length-requires : tie.Need-cut-length-requires
 cut-length-requires c κs = search needs
 
@@ -33,6 +36,7 @@ pub crownhazel-length-spec : {M : Type 1} → statement M
 crownhazel-length-spec =
     tie.close
     (tie.spec
+    cast-cut-length
     cut-length-requires
     enum-known-count
     answered-requires
