@@ -7,6 +7,7 @@
 #include <stdint.h>
 
 #include "bytes.h"
+#include "cash.h"
 #include "crownhazel.h"
 
 /* An entry of a journal. The row holds zones of fixed width, one after another. */
@@ -23,8 +24,8 @@ enum {
     ROW_CURRENCY = 10,
     ROW_DECIMALS = 13,
     ROW_ACCOUNT = 14,
-    ROW_KEY = 25, /* bytes of the key */
-    ROW_OLD_DATE = 25,
+    ROW_KEY = CROWNHAZEL_KEY, /* bytes of the key */
+    ROW_OLD_DATE = ROW_KEY,
     ROW_NEW_DATE = 33
 };
 

@@ -21,9 +21,9 @@
 
 enum {
     LF_LINE = CROWNHAZEL_RECORD + 1,
-    MOST_LISTED = 65340,                   /* bytes that the listing takes: 540 records */
-    MOST_SENT = MOST_LISTED / LF_LINE + 1, /* records sent of a longer file: one too many, so that it shows */
-    MOST_PRINTED = 1 << 20                 /* bytes of a listing, with room to spare */
+    MOST_LISTED = 540,           /* records that the listing takes */
+    MOST_SENT = MOST_LISTED + 1, /* records sent of a longer file: one too many, so that it shows */
+    MOST_PRINTED = 1 << 20       /* bytes of a listing, with room to spare */
 };
 
 /* Whether the right line end stands here. */

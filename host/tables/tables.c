@@ -11,10 +11,10 @@
 #include <string.h>
 
 #include "cases.h"
+#include "crownhazel.h"
 #include "tables.h"
 
 enum {
-    RECORD = 120,
     MOST_FILE = 1 << 22,        /* bytes of a file in a case */
     MOST_ROWS = 1 << 14,        /* rows of a table */
     MOST_COMPLEMENTS = 1 << 20, /* bytes of complements */
@@ -109,8 +109,8 @@ static bool are_records(const struct place *place, struct slice expected) {
     for (size_t i = 0; i < expected.length; i++) {
         if (outs.slice.first[i] != expected.first[i]) {
             if (begin_difference(place)) {
-                printf("record %zu, position %zu: expected byte 0x%02X, came 0x%02X\n", i / RECORD + 1, i % RECORD + 1,
-                       expected.first[i], outs.slice.first[i]);
+                printf("record %zu, position %zu: expected byte 0x%02X, came 0x%02X\n", i / CROWNHAZEL_RECORD + 1,
+                       i % CROWNHAZEL_RECORD + 1, expected.first[i], outs.slice.first[i]);
             }
             return false;
         }
