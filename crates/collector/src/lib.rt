@@ -118,7 +118,7 @@ pub extern "C" fn crownhazel_earliest(line_end: u64, file: &[u8]) -> u64
     ensures { λ r. ⌜ EarliestNumber «line_end» (now (file .entry)) r ⌝ }
 {
     match contents::earliest(Form { line_end }, file) {
-        Beginning::On { day } => { packing::answered(day as u64 % BIT20, day as u64 / BIT20, 0) }
+        Beginning::On { day } => packing::answered(day as u64 % BIT20, day as u64 / BIT20, 0),
         Beginning::Refused { number, record } => packing::refused(number, record),
     }
 }

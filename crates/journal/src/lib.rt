@@ -18,6 +18,8 @@ ghost use Rattle.journal.specs.declared.Found.the-variants.{Refused};
 ghost use Rattle.journal.specs.Newest.{keySize, keyFrom, newestAmong, newestOf, isAccount, lastHeldFrom, lastPart};
 ghost use Rattle.journal.specs.Plans.{partsFrom, Inside, judgedIn, judgedAll, Reading, written, writtenAll, Deliverable, donePlan, refusedPlan, Storable, Planned, Judgeable, Turned, Searchable, Finds};
 ghost use Rattle.journal.specs.Answers.{Delivers, NewestPlace, NewestPart, Holds, BodyOf, OfAccount};
+use entries::ENTRY;
+use entries::MOST_ENTRIES;
 use entries::TABLE;
 use framing::Form;
 use journal_layout::Free;
@@ -74,8 +76,8 @@ pub enum Holding {
 // The statements of a file that a delivery stores: where each begins and ends, and into which entry and from which line on. With its answer.
 pub struct Plan {
     pub count: usize,
-    pub places: [u32; 128],
-    pub ends: [u32; 128],
+    pub places: [u32; MOST_ENTRIES],
+    pub ends: [u32; MOST_ENTRIES],
     pub entry: usize,
     pub line: usize,
     pub answer: Delivery,
@@ -168,7 +170,7 @@ fn verdict_by(
     if !journal_layout::follows(judgement, old.day, old.amount) {
         return Verdict::Refuse(refusal_at(22, record));
     }
-    if 128 <= entries {
+    if MOST_ENTRIES <= entries {
         return Verdict::Refuse(refusal_at(23, record));
     }
     if left < size {
@@ -193,7 +195,7 @@ fn turn(
     requires { ⌜ Judgeable (now journal) form (now file) (now places) (now ends) held count left at end ⌝ }
     ensures { λ v. ⌜ Turned (now (journal .entry)) form (now (file .entry)) (now (places .entry)) (now (ends .entry)) held count left at end v ⌝ }
 {
-    let width = 120 + form.line_end as usize;
+    let width = RECORD + form.line_end as usize;
     let s = &file[at..end];
     let judgement = judged_all(journal, held, form, file, places, ends, count, s);
     verdict_by(
@@ -212,8 +214,8 @@ fn refused_plan(refusal: Refusal) -> Plan
 {
     Plan {
         count: 0,
-        places: [0u32; 128],
-        ends: [0u32; 128],
+        places: [0u32; MOST_ENTRIES],
+        ends: [0u32; MOST_ENTRIES],
         entry: 0,
         line: 0,
         answer: Delivery::Refused(refusal),
@@ -221,7 +223,13 @@ fn refused_plan(refusal: Refusal) -> Plan
 }
 
 // The plan after the last statement.
-fn done_plan(count: usize, places: [u32; 128], ends: [u32; 128], free: Free, held: u64) -> Plan
+fn done_plan(
+    count: usize,
+    places: [u32; MOST_ENTRIES],
+    ends: [u32; MOST_ENTRIES],
+    free: Free,
+    held: u64,
+) -> Plan
     ensures { λ r. ⌜ r ≡ donePlan count places ends free held ⌝ }
 {
     Plan {
@@ -243,10 +251,10 @@ fn dry_run(journal: &[u8], form: Form, file: &[u8]) -> Plan
     ensures { λ r. ⌜ Planned (now (journal .entry)) form (now (file .entry)) r ⌝ }
 {
     let free = journal_layout::first_free(journal);
-    let lines = (journal.len() - 7680) / 120;
-    let width = 120 + form.line_end as usize;
-    let mut places = [0u32; 128];
-    let mut ends = [0u32; 128];
+    let lines = (journal.len() - TABLE) / RECORD;
+    let width = RECORD + form.line_end as usize;
+    let mut places = [0u32; MOST_ENTRIES];
+    let mut ends = [0u32; MOST_ENTRIES];
     let mut count: usize = 0;
     let mut taken = free.line;
     let mut held: u64 = 0;
@@ -284,14 +292,14 @@ fn store(journal: &mut [u8], e: usize, line: usize, form: Form, part: &[u8]) -> 
     requires { ⌜ (e < mostEntries) × (lineAt line ≤ length (now journal)) × (lineEnd form ≤ 2) ⌝ }
     ensures { λ n. ⌜ ((s : Statement) → Reads (codingOf form) form (now (part .entry)) (s ∷ []) → lineAt (line + sizeOf s) ≤ length (now (journal .entry)) → (n ≡ sizeOf s) × (now (journal .exit) ≡ written e line s (now (journal .entry)))) ⌝ }
 {
-    let width = 120 + form.line_end as usize;
+    let width = RECORD + form.line_end as usize;
     let size = part.len() / width;
     let opening = contents::record_at(part, 0);
     let closing = bodies::closing_of(form, part);
-    let a = 60 * e;
-    let z = a + 60;
+    let a = ENTRY * e;
+    let z = a + ENTRY;
     entries::put_entry(&mut journal[a..z], line, size, opening, closing);
-    let b = 7680 + 120 * line;
+    let b = TABLE + RECORD * line;
     bodies::put_body(&mut journal[b..], form, part);
     size
 }
