@@ -25,17 +25,17 @@ use Rattle.readers.proofs.Rows.{from-record, records-from, fine-from}
 use Rattle.contents.specs.Heads.{recordAtOf}
 
 -- as the code comes to it
-pub none-short : (b : List ℕ) (at : ℕ) → length b < 120 → [] ≡ recordAtOf b at
+pub none-short : (b : List ℕ) (at : ℕ) → length b < recordSize → [] ≡ recordAtOf b at
 unfolding recordAtOf
 none-short b at h = sym (rw (lt-ltb (length b) (at + recordSize) (omega arith)))
 
-pub none-past : (b : List ℕ) (at : ℕ) → 120 ≤ length b → length b - 120 < at → [] ≡ recordAtOf b at
+pub none-past : (b : List ℕ) (at : ℕ) → recordSize ≤ length b → length b - recordSize < at → [] ≡ recordAtOf b at
 unfolding recordAtOf
 none-past b at h p = sym (rw (lt-ltb (length b) (at + recordSize) (omega arith)))
 
-pub cut-out : (b : List ℕ) (at : ℕ) → 120 ≤ length b → at ≤ length b - 120 → take (at + 120 - at) (drop at b) ≡ recordAtOf b at
+pub cut-out : (b : List ℕ) (at : ℕ) → recordSize ≤ length b → at ≤ length b - recordSize → take (at + recordSize - at) (drop at b) ≡ recordAtOf b at
 unfolding recordAtOf
-cut-out b at h p = rw (add-sub-cancel-left at 120) (sym (rw (le-ltb (length b) (at + recordSize) (omega arith))))
+cut-out b at h p = rw (add-sub-cancel-left at recordSize) (sym (rw (le-ltb (length b) (at + recordSize) (omega arith))))
 
 -- the record at a place holds these values
 pub record HoldsAt (b : List ℕ) (at : ℕ) (x : Rec) : Type 0 where

@@ -11,7 +11,7 @@ use Rattle.framing.specs.Files.{lineEnd}
 use Rattle.grammar.specs.Statements.{Movement, Statement}
 use Rattle.grammar.specs.Files.{Reads, statementsOf, checkOf}
 use Rattle.grammar.specs.Parts.{noStatement}
-use Rattle.records.specs.July.{recordSize, codingOf}
+use Rattle.records.specs.July.{recordSize, codingOf, textSize}
 use Rattle.fields.specs.Rows.{rowOf, noRow}
 use Rattle.readers.specs.Places.{placeOf}
 use Rattle.readers.specs.Steps.{stepOf}
@@ -51,7 +51,7 @@ abbrev pub refusedMovement : (n r : ℕ) → MovementAnswer
 refusedMovement n r = record { number = n; «record» = r; movement = noRow }
 
 abbrev pub refusedComplement : (n r : ℕ) → ComplementAnswer
-refusedComplement n r = record { number = n; «record» = r; text = replicate 73 0 }
+refusedComplement n r = record { number = n; «record» = r; text = replicate textSize 0 }
 
 -- 17: no movement of that number
 unfoldable pub movementAmong : List Movement → ℕ → MovementAnswer

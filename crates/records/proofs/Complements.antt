@@ -17,14 +17,14 @@ use Rattle.layouts.specs.Zone as Z
 use Rattle.layouts.specs.Zone.{part, zone, zoned, dated, run}
 use Rattle.layouts.proofs.PerLayout.{zone-at, fits-permitted}
 use Rattle.records.specs.Layouts.{layout05, layoutMmo}
-use Rattle.records.specs.July.{recordSize, isCode, isMmo, layout05Of, writeComplement}
+use Rattle.records.specs.July.{recordSize, textSize, isCode, isMmo, layout05Of, writeComplement}
 use Rattle.records.proofs.Covered.{covers05, covers-mmo}
 use Rattle.records.proofs.Valued.{Judged}
 
 -- five pieces of a record
 split : (b : List ℕ) → part 1 2 b ++ (part 3 40 b ++ (part 41 45 b ++ (part 46 118 b ++ drop 118 b))) ≡ b
 split b =
-    rw (← drop-drop 73 45 b, take-append-drop 73 (drop 45 b), ← drop-drop 5 40 b, take-append-drop 5 (drop 40 b), ← drop-drop 38 2 b, take-append-drop 38 (drop 2 b))
+    rw (← drop-drop textSize 45 b, take-append-drop textSize (drop 45 b), ← drop-drop 5 40 b, take-append-drop 5 (drop 40 b), ← drop-drop 38 2 b, take-append-drop 38 (drop 2 b))
     (take-append-drop 2 b)
 
 pieces : {a c m n l k : List ℕ} (e t : List ℕ) → a ≡ c → m ≡ n → l ≡ k → a ++ (e ++ (m ++ (t ++ l))) ≡ c ++ (e ++ (n ++ (t ++ k)))
@@ -75,14 +75,14 @@ pub record Placed (e t : List ℕ) : Type 0 where
   pub text : part 46 118 (writeComplement e t) ≡ t
   pub size : length (writeComplement e t) ≡ recordSize
 
-pub placed : (e t : List ℕ) → length e ≡ 38 → length t ≡ 73 → Placed e t
+pub placed : (e t : List ℕ) → length e ≡ 38 → length t ≡ textSize → Placed e t
 unfolding writeComplement
 placed e t p q =
     let r = replicate 5 32 ++ (t ++ replicate 2 32) in
     record {
       code = refl;
       repeated = take-at e r 38 p;
-      text = ap (take 73) (sym (drop-drop 5 38 (e ++ r)) ∙ ap (drop 5) (drop-at e r 38 p)) ∙ take-at t (replicate 2 32) 73 q;
+      text = ap (take textSize) (sym (drop-drop 5 38 (e ++ r)) ∙ ap (drop 5) (drop-at e r 38 p)) ∙ take-at t (replicate 2 32) textSize q;
       size = omega (arith, length-append e r, length-append t (replicate 2 32));
     }
 
@@ -95,7 +95,7 @@ complement-permitted e t p j = by (isMmo t) refl (j .zones) (j .dates)
     code = rw (p .code) (equal-same (bytes "05"))
 
     qualifier : isMmo t ≡ true → sameBytes (bytes "MMO") (part 46 48 (writeComplement e t)) ≡ true
-    qualifier m = rw (take-take 3 73 (drop 45 (writeComplement e t)) (omega arith)) at (rw (← p .text) at m)
+    qualifier m = rw (take-take 3 textSize (drop 45 (writeComplement e t)) (omega arith)) at (rw (← p .text) at m)
 
     by : (x : Bool) → isMmo t ≡ x → run zoned (pick x layoutMmo layout05) (writeComplement e t) ≡ true
         → run dated (pick x layoutMmo layout05) (writeComplement e t) ≡ true → all permitted (writeComplement e t) ≡ true

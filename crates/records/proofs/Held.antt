@@ -22,7 +22,7 @@ use Rattle.layouts.specs.Zone.{part, Zone, zone, dayIn, isDate, zoned, dated, r
 use Rattle.layouts.proofs.PerKind.{holds-get}
 use Rattle.layouts.proofs.PerLayout.{passesZone, zone-at}
 use Rattle.records.specs.Layouts.{front, layout05, layoutMmo}
-use Rattle.records.specs.July.{recordSize, isMmo, layout05Of, writeComplement, HoldsRepeated, HoldsMmo, HoldsText}
+use Rattle.records.specs.July.{recordSize, textSize, isMmo, layout05Of, writeComplement, HoldsRepeated, HoldsMmo, HoldsText}
 use Rattle.records.proofs.Valued.{Judged}
 use Rattle.records.proofs.Complements.{Placed, placed}
 
@@ -77,7 +77,7 @@ mmo-qualifier : (t : List ℕ) → isMmo t ≡ true → all alnum (take 3 t) ≡
 unfolding isMmo every
 mmo-qualifier t m = ap (all alnum) (sym (same-equal (bytes "MMO") (take 3 t) m))
 
-pub mmo-text : (t : List ℕ) → length t ≡ 73 → isMmo t ≡ true → HoldsMmo t → HoldsText t
+pub mmo-text : (t : List ℕ) → length t ≡ textSize → isMmo t ≡ true → HoldsMmo t → HoldsText t
 mmo-text t l m h =
     record {
       size = l;
@@ -91,11 +91,11 @@ mmo-text t l m h =
 holds-text : (b : List ℕ) → length b ≡ recordSize → Judged (layout05Of (part 46 118 b)) b → HoldsText (part 46 118 b)
 holds-text b l j = by (isMmo (part 46 118 b)) refl (j .zones)
   where
-    size : length (part 46 118 b) ≡ 73
-    size = length-take-le 73 (drop 45 b) (rw length-drop (omega arith))
+    size : length (part 46 118 b) ≡ textSize
+    size = length-take-le textSize (drop 45 b) (rw length-drop (omega arith))
 
-    at : (n m : ℕ) → m + n ≤ 73 → take n (drop m (part 46 118 b)) ≡ take n (drop (45 + m) b)
-    at n m h = sub-part n m 73 45 b h
+    at : (n m : ℕ) → m + n ≤ textSize → take n (drop m (part 46 118 b)) ≡ take n (drop (45 + m) b)
+    at n m h = sub-part n m textSize 45 b h
 
     by : (x : Bool) → isMmo (part 46 118 b) ≡ x → run zoned (pick x layoutMmo layout05) b ≡ true → HoldsText (part 46 118 b)
     by true m z =
@@ -148,8 +148,8 @@ module _ (e t : List ℕ) (g : HoldsRepeated e) (h : HoldsText t) where
   front-at : (n m : ℕ) → m + n ≤ 38 → take n (drop (2 + m) w) ≡ take n (drop m e)
   front-at n m i = sym (sub-part n m 38 2 w i) ∙ ap (λ (x : List ℕ). take n (drop m x)) (p .repeated)
 
-  text-at : (n m : ℕ) → m + n ≤ 73 → take n (drop (45 + m) w) ≡ take n (drop m t)
-  text-at n m i = sym (sub-part n m 73 45 w i) ∙ ap (λ (x : List ℕ). take n (drop m x)) (p .text)
+  text-at : (n m : ℕ) → m + n ≤ textSize → take n (drop (45 + m) w) ≡ take n (drop m t)
+  text-at n m i = sym (sub-part n m textSize 45 w i) ∙ ap (λ (x : List ℕ). take n (drop m x)) (p .text)
 
   front-zoned : run zoned (front "05" (Z.text permitted) (Z.text alnum) []) w ≡ true
   front-zoned =
@@ -172,7 +172,7 @@ module _ (e t : List ℕ) (g : HoldsRepeated e) (h : HoldsText t) where
   unfolding writeComplement
   last-blank =
       let r = replicate 5 32 ++ (t ++ replicate 2 32) in
-      ap (λ (x : List ℕ). all blank (take 2 x)) (sym (drop-drop 78 38 (e ++ r)) ∙ ap (drop 78) (drop-at e r 38 (g .size)) ∙ drop-at t (replicate 2 32) 73 (h .size)) ∙ are-blanks 2
+      ap (λ (x : List ℕ). all blank (take 2 x)) (sym (drop-drop 78 38 (e ++ r)) ∙ ap (drop 78) (drop-at e r 38 (g .size)) ∙ drop-at t (replicate 2 32) textSize (h .size)) ∙ are-blanks 2
 
   text-zoned : (x : Bool) → isMmo t ≡ x → run zoned (pick x layoutMmo layout05) w ≡ true
   text-zoned true m =

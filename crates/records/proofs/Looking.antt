@@ -20,7 +20,7 @@ use Rattle.amounts.specs.declared.Amount.the-variants.{Value, NoAmount}
 use Rattle.dates.specs.Days.{dateOf}
 use Rattle.layouts.specs.Zone.{part, zoned, dated, run, isDate}
 use Rattle.records.specs.Layouts.{layout01, layout04, layout05, layoutMmo}
-use Rattle.records.specs.July.{recordSize, isCode, unknownCode, isMmo, layout05Of, layoutFor, misfit, undated, dateIn, amountIn}
+use Rattle.records.specs.July.{recordSize, textSize, isCode, unknownCode, isMmo, layout05Of, layoutFor, misfit, undated, dateIn, amountIn}
 use Rattle.records.specs.Looks.{kindOf, hasValue, noRecord, lookOf}
 use Rattle.records.specs.declared.Look.{Look}
 
@@ -34,7 +34,7 @@ two-bytes (x ∷ y ∷ b) second h = ap (λ (t : Bool). eqb 48 x && t) (sym (and
 -- the qualifier of a text
 pub qualifier : (b : List ℕ) → sameBytes (bytes "MMO") (part 46 48 b) ≡ isMmo (part 46 118 b)
 unfolding isMmo
-qualifier b = ap (sameBytes (bytes "MMO")) (sym (take-take 3 73 (drop 45 b) (omega arith)))
+qualifier b = ap (sameBytes (bytes "MMO")) (sym (take-take 3 textSize (drop 45 b) (omega arith)))
 
 pub value-amount : (z : List ℕ) → hasValue (amountOf z) ≡ isAmount z
 unfolding amountOf

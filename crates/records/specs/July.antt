@@ -32,6 +32,10 @@ mostInStatement = 9999
 abbrev pub recordSize : ℕ
 recordSize = 120
 
+-- the text of a 05 is its qualifier and information, 73 bytes
+abbrev pub textSize : ℕ
+textSize = 73
+
 -- the record code
 abbrev pub isCode : String → List ℕ → Bool
 isCode code b = sameBytes (bytes code) (part 1 2 b)
@@ -194,7 +198,7 @@ pub record HoldsMmo (t : List ℕ) : Type 0 where
 
 -- the text of a 05: 46-48 qualifier (A-Z, 0-9), 49-118 information (any permitted bytes)
 pub record HoldsText (t : List ℕ) : Type 0 where
-  pub size : length t ≡ 73
+  pub size : length t ≡ textSize
   pub qualifier : all alnum (inText 46 48 t) ≡ true
   pub information : all permitted (inText 49 118 t) ≡ true
   pub mmo : isMmo t ≡ true → HoldsMmo t

@@ -13,12 +13,12 @@ use Rattle.grammar.specs.declared.Key.{Key}
 use Rattle.grammar.specs.Record.{complement}
 use Rattle.grammar.specs.Statements as values
 use Rattle.grammar.specs.Statements.{recordsOfMovement, recordsOfMovements}
-use Rattle.records.specs.July.{repeats, Holds, july2004}
+use Rattle.records.specs.July.{textSize, repeats, Holds, july2004}
 use Rattle.fields.specs.declared.Movement.{Movement}
 use Rattle.fields.specs.Rows.{rowOf}
 use Rattle.writing.specs.Written.{postingOf}
 use Rattle.tables.specs.Tables.{rowsOf}
-use Rattle.writer.specs.Values.{textSize, movementsFrom, countedIn, textsOf}
+use Rattle.writer.specs.Values.{movementsFrom, countedIn, textsOf}
 use Rattle.writer.proofs.Alls.{all-left, all-right, all-unmap}
 
 -- pieces are cut from the front: what follows them does not count

@@ -18,13 +18,13 @@ use Rattle.grammar.specs.Statements as values
 use Rattle.grammar.specs.Statements.{plus, sizes, ValidMovement, Valid, recordsOfMovement, recordsOfMovements, recordsOf}
 use Rattle.grammar.proofs.Parts.{length-one}
 use Rattle.grammar.proofs.Tests.{sameAmount-true, sameAmount-self}
-use Rattle.records.specs.July.{mostInStatement, repeats, Holds, july2004}
+use Rattle.records.specs.July.{textSize, mostInStatement, repeats, Holds, july2004}
 use Rattle.fields.specs.declared.Movement.{Movement}
 use Rattle.contents.specs.declared.Head.{Head}
 use Rattle.writing.specs.Written.{postingOf, keyHolds, balanceHolds, textHolds}
 use Rattle.writing.proofs.Held.{opening-holds, closing-holds, movement-holds, text-held, complement-held}
 use Rattle.writer.specs.declared.Tally.{Tally}
-use Rattle.writer.specs.Values.{textSize, movementsFrom, statementFrom, countedIn, Carried}
+use Rattle.writer.specs.Values.{movementsFrom, statementFrom, countedIn, Carried}
 use Rattle.writer.specs.Test.{begun, tallied, completed, carries}
 use Rattle.writer.proofs.Alls.{all-append, all-left, all-right, all-map, all-unmap}
 use Rattle.writer.proofs.Rows.{FineRows, after, run, passes}

@@ -46,15 +46,15 @@ module _ (bytes : ℕ) (h : Head) (out : List ℕ) where
     inside = bounds bytes (length out) e .1
 
     pub ends-put : {y z : List ℕ} → y ≡ openingPut (h .key) (h .«old_date») (h .«old_balance») (take recordSize out)
-        → z ≡ closingPut (h .key) (h .«new_date») (h .«new_balance») (take (bytes - (bytes - 120)) (drop (bytes - 120) (putMid 0 120 out y)))
-        → putMid (bytes - 120) (bytes - (bytes - 120)) (putMid 0 120 out y) z ≡ endsPut bytes h out
+        → z ≡ closingPut (h .key) (h .«new_date») (h .«new_balance») (take (bytes - (bytes - recordSize)) (drop (bytes - recordSize) (putMid 0 recordSize out y)))
+        → putMid (bytes - recordSize) (bytes - (bytes - recordSize)) (putMid 0 recordSize out y) z ≡ endsPut bytes h out
     unfolding endsPut
     ends-put {y} {z} p q =
         let n = bytes - 2 * recordSize in
         let g = some in
         let r = inside in
-        let i : bytes - (bytes - 120) ≡ recordSize = omega arith in
-        let j : bytes - 120 ≡ recordSize + n = omega arith in
+        let i : bytes - (bytes - recordSize) ≡ recordSize = omega arith in
+        let j : bytes - recordSize ≡ recordSize + n = omega arith in
         let l : length y ≡ recordSize = ap length p ∙ length-opening (h .key) (h .«old_date») (h .«old_balance») (take recordSize out) ∙ length-take-le recordSize out (omega arith) in
         let R = drop recordSize out in
         let a : drop (recordSize + n) (y ++ R) ≡ drop (recordSize + n) out =
@@ -63,5 +63,5 @@ module _ (bytes : ℕ) (h : Head) (out : List ℕ) where
         let c : recordSize + n + recordSize ≡ bytes = omega arith in
         let d : drop recordSize (drop (recordSize + n) out) ≡ drop bytes out = drop-drop recordSize (recordSize + n) out ∙ ap (λ (k : ℕ). drop k out) c in
         let f : z ≡ closingPut (h .key) (h .«new_date») (h .«new_balance») (take recordSize (drop (recordSize + n) out)) = rw (i, j, a) at q in
-        let u : putMid (bytes - 120) (bytes - (bytes - 120)) (y ++ R) z ≡ (y ++ take n R) ++ (z ++ drop bytes out) = rw (i, j, b, a, d) in
+        let u : putMid (bytes - recordSize) (bytes - (bytes - recordSize)) (y ++ R) z ≡ (y ++ take n R) ++ (z ++ drop bytes out) = rw (i, j, b, a, d) in
         u ∙ append-assoc y (take n R) (z ++ drop bytes out) ∙ ap₂ (λ v w. v ++ (take n R ++ (w ++ drop bytes out))) p f ∙ sym (rw (e, j))

@@ -29,14 +29,14 @@ length-movement k m x = by (eqb (length x) recordSize) (movementHolds k m) refl 
     by false u p q = refl
 
 pub group-put : (k : Key) (m : Movement) (ts : List (List ℕ)) (out : List ℕ) {y z : List ℕ} → recordSize ≤ length out → y ≡ movementPut k m (take recordSize out)
-    → z ≡ textsPut k m ts (take (length (y ++ drop 120 out) - 120) (drop 120 (y ++ drop 120 out)))
-    → putMid 120 (length (y ++ drop 120 out) - 120) (y ++ drop 120 out) z ≡ groupPut k m ts out
+    → z ≡ textsPut k m ts (take (length (y ++ drop recordSize out) - recordSize) (drop recordSize (y ++ drop recordSize out)))
+    → putMid recordSize (length (y ++ drop recordSize out) - recordSize) (y ++ drop recordSize out) z ≡ groupPut k m ts out
 unfolding groupPut
 group-put k m ts out {y} {z} h p q =
     let R = drop recordSize out in
     let l : length y ≡ recordSize = ap length p ∙ length-movement k m (take recordSize out) ∙ length-take-le recordSize out h in
-    let n : length (y ++ R) - 120 ≡ length R = omega (arith, length-append y R, l) in
-    let d : drop 120 (y ++ R) ≡ R = drop-at y R 120 l in
+    let n : length (y ++ R) - recordSize ≡ length R = omega (arith, length-append y R, l) in
+    let d : drop recordSize (y ++ R) ≡ R = drop-at y R recordSize l in
     let w : length R ≤ length R = omega arith in
     let g : z ≡ textsPut k m ts R = rw (n, d, take-all (length R) R w) at q in
-    rw (n, d, take-at y R 120 l, drop-of-length-le R w, append-nil z) (ap₂ _++_ p g)
+    rw (n, d, take-at y R recordSize l, drop-of-length-le R w, append-nil z) (ap₂ _++_ p g)

@@ -15,13 +15,13 @@ use Rattle.framing.proofs.Cuts.{length-flat, length-chunks}
 use Rattle.grammar.specs.declared.Key.{Key}
 use Rattle.grammar.specs.Record.{Rec, complement}
 use Rattle.grammar.specs.Statements.{sizes, recordsOfMovement, recordsOfMovements}
-use Rattle.records.specs.July.{recordSize, mostInStatement, repeats, writeMovement, writeComplement, Holds, july2004, encodeRecord}
+use Rattle.records.specs.July.{recordSize, textSize, mostInStatement, repeats, writeMovement, writeComplement, Holds, july2004, encodeRecord}
 use Rattle.records.proofs.Lawful.{july-lawful}
 use Rattle.fields.specs.declared.Movement.{Movement}
 use Rattle.contents.specs.declared.Head.{Head}
 use Rattle.writing.specs.Written.{postingOf, movementHolds, textHolds, movementPut, complementPut}
 use Rattle.writer.specs.declared.Spot.{Spot}
-use Rattle.writer.specs.Values.{textSize, movementsFrom, countedIn}
+use Rattle.writer.specs.Values.{movementsFrom, countedIn}
 use Rattle.writer.specs.Steps.{textsPut, groupPut, groupSize, placed, roomAt, spotOf, rowPut, rowsPut}
 use Rattle.writer.proofs.Alls.{all-map, all-left}
 use Rattle.writer.proofs.Rows.{FineRows}

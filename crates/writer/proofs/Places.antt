@@ -13,10 +13,9 @@ use borrow.Rule.Slice.PartMut.{putMid}
 use Rattle.zones.proofs.Bools.{and-left, and-right}
 use Rattle.framing.specs.Files.{chunks}
 use Rattle.grammar.specs.declared.Key.{Key}
-use Rattle.records.specs.July.{mostInStatement}
+use Rattle.records.specs.July.{textSize, mostInStatement}
 use Rattle.fields.specs.declared.Movement.{Movement}
 use Rattle.writer.specs.declared.Spot.{Spot}
-use Rattle.writer.specs.Values.{textSize}
 use Rattle.writer.specs.Steps.{groupPut, groupSize, placed, roomAt, spotOf, rowPut}
 use Rattle.writer.proofs.Back.{chunks-take}
 use Rattle.writer.proofs.Tallied.{room-left}

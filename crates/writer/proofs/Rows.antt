@@ -20,12 +20,12 @@ use Rattle.layouts.specs.Zone.{text, either, byte, number, holds}
 use Rattle.framing.specs.Files.{chunks}
 use Rattle.framing.proofs.Cuts.{length-chunks}
 use Rattle.grammar.specs.Statements.{plus, sizes}
-use Rattle.records.specs.July.{mostInStatement}
+use Rattle.records.specs.July.{textSize, mostInStatement}
 use Rattle.fields.specs.declared.Movement.{Movement}
 use Rattle.contents.specs.declared.Head.{Head}
 use Rattle.writing.specs.Written.{keyHolds, movementHolds, postingHolds}
 use Rattle.writer.specs.declared.Tally.{Tally}
-use Rattle.writer.specs.Values.{textSize, movementsFrom, countedIn}
+use Rattle.writer.specs.Values.{movementsFrom, countedIn}
 use Rattle.writer.specs.Test.{textsHold, grown, stopped, bookedWithin, mostBalance, reckoned, roomFor, tallyOf, tallied}
 use Rattle.writer.proofs.Texts.{Fine, texts-fine, texts-hold}
 

@@ -12,12 +12,11 @@ use borrow.Author.Tests.{le-leb, lt-leb, leb-true, leb-false}
 use Rattle.zones.proofs.Bools.{and-left, and-right}
 use Rattle.amounts.specs.Amounts.{mostAmount}
 use Rattle.framing.specs.Files.{chunks}
-use Rattle.records.specs.July.{mostInStatement}
+use Rattle.records.specs.July.{textSize, mostInStatement}
 use Rattle.fields.specs.declared.Movement.{Movement}
 use Rattle.contents.specs.declared.Head.{Head}
 use Rattle.writing.specs.Written.{movementHolds}
 use Rattle.writer.specs.declared.Tally.{Tally}
-use Rattle.writer.specs.Values.{textSize}
 use Rattle.writer.specs.Test.{textsHold, stopped, grown, bookedWithin, mostBalance, reckoned, roomFor, tallyOf}
 use Rattle.writer.proofs.Back.{chunks-take}
 use Rattle.writer.proofs.Rows.{row-amount}

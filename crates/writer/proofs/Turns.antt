@@ -15,13 +15,12 @@ use Rattle.zones.proofs.Bools.{and-left, and-right}
 use Rattle.framing.specs.Files.{chunks}
 use Rattle.grammar.specs.declared.Key.{Key}
 use Rattle.grammar.specs.Record.{complement}
-use Rattle.records.specs.July.{recordSize, repeats, isMmo, writeComplement}
+use Rattle.records.specs.July.{recordSize, textSize, repeats, isMmo, writeComplement}
 use Rattle.records.proofs.Lawful.{july-lawful}
 use Rattle.fields.specs.declared.Movement.{Movement}
 use Rattle.readers.proofs.Walk.{pieceAt, chunk}
 use Rattle.writing.specs.Written.{postingOf, movementHolds, textHolds, complementPut}
 use Rattle.writing.proofs.Held.{complement-held}
-use Rattle.writer.specs.Values.{textSize}
 use Rattle.writer.specs.Test.{textsHold}
 use Rattle.writer.specs.Steps.{textsPut}
 

@@ -7,11 +7,10 @@ use lib.ListN.{length, take, drop}
 use Rattle.zones.specs.Choice.{pick}
 use Rattle.framing.specs.Files.{chunks}
 use Rattle.grammar.specs.declared.Key.{Key}
-use Rattle.records.specs.July.{recordSize, mostInStatement}
+use Rattle.records.specs.July.{recordSize, textSize, mostInStatement}
 use Rattle.fields.specs.declared.Movement.{Movement}
 use Rattle.contents.specs.declared.Head.{Head}
 use Rattle.writing.specs.Written.{openingPut, closingPut, movementPut, complementPut}
-use Rattle.writer.specs.Values.{textSize}
 use Rattle.writer.specs.Test.{completed}
 use Rattle.writer.specs.Writing.{refusedWrite}
 use Rattle.writer.specs.declared.Tally.{Tally}

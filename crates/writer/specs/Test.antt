@@ -8,11 +8,10 @@ use lib.IntN.{natAbs, _+ℤ_}
 use Rattle.zones.specs.Choice.{pick}
 use Rattle.framing.specs.Files.{chunks}
 use Rattle.grammar.specs.Record.{sameAmount}
-use Rattle.records.specs.July.{mostInStatement, isMmo}
+use Rattle.records.specs.July.{textSize, mostInStatement, isMmo}
 use Rattle.fields.specs.declared.Movement.{Movement}
 use Rattle.contents.specs.declared.Head.{Head}
 use Rattle.writing.specs.Written.{balanceHolds, movementHolds, textHolds}
-use Rattle.writer.specs.Values.{textSize}
 use Rattle.writer.specs.declared.Tally.{Tally}
 
 -- The texts of one movement: all fit so far, and an MMO was seen. Each has to fit a 05, and a second MMO fits none.

@@ -10,16 +10,12 @@ use Rattle.grammar.specs.Statements as values
 use Rattle.grammar.specs.Statements.{Statement, recordsOf}
 use Rattle.grammar.specs.Files.{Reads, Writable}
 use Rattle.grammar.specs.Parts.{noStatement}
-use Rattle.records.specs.July.{recordSize, july, july2004, encodeRecord, codingOf}
+use Rattle.records.specs.July.{recordSize, july, july2004, encodeRecord, codingOf, textSize}
 use Rattle.fields.specs.declared.Movement.{Movement}
 use Rattle.contents.specs.Heads.{headFrom}
 use Rattle.contents.specs.declared.Head.{Head}
 use Rattle.tables.specs.Tables.{rowsOf}
 use Rattle.writing.specs.Written.{postingOf}
-
--- a complement is its qualifier and information, 73 bytes
-abbrev pub textSize : ℕ
-textSize = 73
 
 -- each row a movement, with as many complements as it counts; they stand one after another
 unfoldable pub movementsFrom : List Movement → List ℕ → List values.Movement

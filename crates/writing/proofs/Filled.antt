@@ -20,7 +20,7 @@ use Rattle.amounts.specs.Answers as amount-answers
 use Rattle.amounts.proofs.RoundTrip as amounts
 use Rattle.layouts.specs.Zone.{part}
 use Rattle.grammar.specs.declared.Key.{Key}
-use Rattle.records.specs.July.{recordSize, writeBalance, writeMovement, writeComplement, repeats}
+use Rattle.records.specs.July.{recordSize, textSize, writeBalance, writeMovement, writeComplement, repeats}
 use Rattle.fields.specs.declared.Movement.{Movement}
 use Rattle.writing.specs.Written.{postingOf}
 use Rattle.writing.specs.Groups.{bankText, accountText, frontText, balanceText, middleText, lastText}
@@ -150,11 +150,11 @@ module _ (k : Key) (m : Movement) (w : KeyWide k) (v : RowWide m) where
       (length-front 52 k (m .internal) (m .code) (m .booked) w (v .0) (v .1 .0), (length-middle m v, (length-last m v, tt))) l)
       ∙ movement-text k m
 
-  pub complement-filled : (t x : List ℕ) {a b e f : List ℕ} → length t ≡ 73 → length x ≡ recordSize
+  pub complement-filled : (t x : List ℕ) {a b e f : List ℕ} → length t ≡ textSize → length x ≡ recordSize
       → a ≡ frontText 53 k (m .internal) (m .code) (m .booked) → b ≡ replicate 5 32 → e ≡ t → f ≡ replicate 2 32
-      → pasted 0 (40 ∷ 5 ∷ 73 ∷ 2 ∷ []) (a ∷ b ∷ e ∷ f ∷ []) x ≡ writeComplement (repeats k (postingOf m)) t
+      → pasted 0 (40 ∷ 5 ∷ textSize ∷ 2 ∷ []) (a ∷ b ∷ e ∷ f ∷ []) x ≡ writeComplement (repeats k (postingOf m)) t
   complement-filled t x n l s g u y =
       rw (s, g, u, y)
-      (filled (40 ∷ 5 ∷ 73 ∷ 2 ∷ []) (frontText 53 k (m .internal) (m .code) (m .booked) ∷ replicate 5 32 ∷ t ∷ replicate 2 32 ∷ []) x
+      (filled (40 ∷ 5 ∷ textSize ∷ 2 ∷ []) (frontText 53 k (m .internal) (m .code) (m .booked) ∷ replicate 5 32 ∷ t ∷ replicate 2 32 ∷ []) x
       (length-front 53 k (m .internal) (m .code) (m .booked) w (v .0) (v .1 .0), (refl, (n, (refl, tt)))) l)
       ∙ complement-text k m t w v

@@ -16,7 +16,7 @@ use Rattle.layouts.specs.Zone.{part, text, either, byte, number, holds, encode,
 use Rattle.grammar.specs.declared.Key.{Key}
 use Rattle.grammar.specs.Record.{complement}
 use Rattle.records.specs.Layouts.{layout01, layout04, layout07}
-use Rattle.records.specs.July.{isMmo, balanceValues, movementValues, writeMovement, repeats, HoldsText, Holds}
+use Rattle.records.specs.July.{textSize, isMmo, balanceValues, movementValues, writeMovement, repeats, HoldsText, Holds}
 use Rattle.records.proofs.Covered.{covers04}
 use Rattle.records.proofs.Valued.{written-length, written-judged}
 use Rattle.records.proofs.Held.{mmo-text, holds-repeated}
@@ -66,7 +66,7 @@ movement-holds k m =
 -- the text of a 05 that can be written
 pub text-held : (e t : List ℕ) → Holds (complement e t) → textHolds t ≡ true
 unfolding textHolds mmoHolds plainHolds
-text-held e t h = both (eq-eqb (length t) 73 (h .1 .size)) (by (isMmo t) refl)
+text-held e t h = both (eq-eqb (length t) textSize (h .1 .size)) (by (isMmo t) refl)
   where
     by : (x : Bool) → isMmo t ≡ x → pick x (mmoHolds t) (plainHolds t) ≡ true
     by true m = let i = h .1 .mmo m in both (i .currency) (both (i .decimals) (both (i .amount) (i .rest)))
@@ -74,10 +74,10 @@ text-held e t h = both (eq-eqb (length t) 73 (h .1 .size)) (by (isMmo t) refl)
 
 held-text : (t : List ℕ) → textHolds t ≡ true → HoldsText t
 unfolding textHolds mmoHolds plainHolds
-held-text t h = by (isMmo t) refl (and-right (eqb (length t) 73) _ h)
+held-text t h = by (isMmo t) refl (and-right (eqb (length t) textSize) _ h)
   where
-    size : length t ≡ 73
-    size = eqb-true (length t) 73 (and-left (eqb (length t) 73) _ h)
+    size : length t ≡ textSize
+    size = eqb-true (length t) textSize (and-left (eqb (length t) textSize) _ h)
 
     by : (x : Bool) → isMmo t ≡ x → pick x (mmoHolds t) (plainHolds t) ≡ true → HoldsText t
     by true m i =

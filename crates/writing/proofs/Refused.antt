@@ -14,7 +14,7 @@ use Rattle.dates.specs.Days.{isDay}
 use Rattle.amounts.specs.Amounts.{hasAmount}
 use Rattle.layouts.specs.Zone.{text, either, byte, number, holds}
 use Rattle.grammar.specs.declared.Key.{Key}
-use Rattle.records.specs.July.{recordSize}
+use Rattle.records.specs.July.{recordSize, textSize}
 use Rattle.fields.specs.declared.Movement.{Movement}
 use Rattle.writing.specs.Written.{keyHolds, balanceHolds, postingHolds, movementHolds, textHolds}
 
@@ -50,6 +50,6 @@ dated k m h =
     let d = and-right (holds 1 (byte flag) (m .unavailable)) _ (and-right (holds 1 (byte flag) (m .exempt)) _ c) in
     record { booked = and-left (isDay (m .booked)) _ a; value = and-left (isDay (m .value)) _ b; amount = and-left (hasAmount (m .amount)) _ d }
 
-pub length-held : (t : List ℕ) → textHolds t ≡ true → length t ≡ 73
+pub length-held : (t : List ℕ) → textHolds t ≡ true → length t ≡ textSize
 unfolding textHolds
-length-held t h = eqb-true (length t) 73 (and-left (eqb (length t) 73) _ h)
+length-held t h = eqb-true (length t) textSize (and-left (eqb (length t) textSize) _ h)

@@ -15,7 +15,7 @@ use Rattle.zones.proofs.Pasted.{Wide}
 use Rattle.dates.specs.Days.{isDay}
 use Rattle.amounts.specs.Amounts.{hasAmount}
 use Rattle.grammar.specs.declared.Key.{Key}
-use Rattle.records.specs.July.{isMmo}
+use Rattle.records.specs.July.{textSize, isMmo}
 use Rattle.fields.specs.declared.Movement.{Movement}
 use Rattle.writing.specs.Written.{postingOf, keyHolds, postingHolds, mmoHolds, plainHolds, textHolds}
 
@@ -56,14 +56,14 @@ module _ (t : List ℕ) where
   unfolding isMmo
   no-mmo h = other-length (bytes "MMO") (take 3 t) (λ e. omega (arith, e, length-take 3 t))
 
-  pub other-text : (length t ≡ 73 → ⊥) → false ≡ textHolds t
+  pub other-text : (length t ≡ textSize → ⊥) → false ≡ textHolds t
   unfolding textHolds
-  other-text h = rw (ne-eqb (length t) 73 h)
+  other-text h = rw (ne-eqb (length t) textSize h)
 
-  pub mmo-text : {a : Bool} → length t ≡ 73 → isMmo t ≡ true → a ≡ mmoHolds t → a ≡ textHolds t
+  pub mmo-text : {a : Bool} → length t ≡ textSize → isMmo t ≡ true → a ≡ mmoHolds t → a ≡ textHolds t
   unfolding textHolds
-  mmo-text l m e = e ∙ sym (rw (eq-eqb (length t) 73 l, m))
+  mmo-text l m e = e ∙ sym (rw (eq-eqb (length t) textSize l, m))
 
-  pub plain-text : {a : Bool} → length t ≡ 73 → isMmo t ≡ false → a ≡ plainHolds t → a ≡ textHolds t
+  pub plain-text : {a : Bool} → length t ≡ textSize → isMmo t ≡ false → a ≡ plainHolds t → a ≡ textHolds t
   unfolding textHolds
-  plain-text l m e = e ∙ sym (rw (eq-eqb (length t) 73 l, m))
+  plain-text l m e = e ∙ sym (rw (eq-eqb (length t) textSize l, m))

@@ -12,7 +12,7 @@ use Rattle.amounts.specs.Amounts.{hasAmount}
 use Rattle.layouts.specs.Zone.{part, text, either, byte, number, holds}
 use Rattle.grammar.specs.declared.Key.{Key}
 use Rattle.grammar.specs.Record.{Posting}
-use Rattle.records.specs.July.{recordSize, isMmo, writeBalance, writeMovement, writeComplement, repeats}
+use Rattle.records.specs.July.{recordSize, textSize, isMmo, writeBalance, writeMovement, writeComplement, repeats}
 use Rattle.fields.specs.declared.Movement.{Movement}
 
 -- what a row says of its 04, the number of its complements left out
@@ -68,7 +68,7 @@ unfoldable pub plainHolds : List ℕ → Bool
 plainHolds t = all alnum (part 1 3 t) && all permitted (part 4 73 t)
 
 unfoldable pub textHolds : List ℕ → Bool
-textHolds t = eqb (length t) 73 && pick (isMmo t) (mmoHolds t) (plainHolds t)
+textHolds t = eqb (length t) textSize && pick (isMmo t) (mmoHolds t) (plainHolds t)
 
 -- Values that a record can hold go into a lent part of 120 bytes. All else changes nothing.
 unfoldable pub openingPut : Key → ℕ → ℤ → List ℕ → List ℕ

@@ -5,6 +5,7 @@ use mathlib.Core.Bool.{true, _&&_}
 use borrow.Author.Tests.{not-false}
 use Rattle.zones.proofs.Bools.{conj, and-left, and-right}
 use Rattle.zones.proofs.Called.{put-whole}
+use Rattle.records.specs.July.{textSize}
 use Rattle.writing.specs.Written.{movementHolds, textHolds, complementPut}
 use Rattle.writing.proofs.Filled.{complement-filled}
 use Rattle.writing.proofs.Refused.{other-room, not-held, held, dated, length-held}
@@ -95,7 +96,7 @@ sizes c = (search needs, search needs)
 five-blanks : (c : tie.After-put) → c .put .last .0 ≡ replicate 5 32
 five-blanks c = put-whole (c .put .ensures) (search needs)
 
-copied : (c : tie.After-put2) → length (c .before .before .before .before .before .before .before .before .before .before .before .before .before .before .before .before .before .before .before .args .text .now) ≡ 73 → c .put2 .last .0 ≡ c .before .before .before .before .before .before .before .before .before .before .before .before .before .before .before .before .before .before .before .args .text .now
+copied : (c : tie.After-put2) → length (c .before .before .before .before .before .before .before .before .before .before .before .before .before .before .before .before .before .before .before .args .text .now) ≡ textSize → c .put2 .last .0 ≡ c .before .before .before .before .before .before .before .before .before .before .before .before .before .before .before .before .before .before .before .args .text .now
 copied c l = put-whole (c .put2 .ensures) (l ∙ sym (search needs))
 
 returns-3 : tie.Need-returns-3
