@@ -111,17 +111,17 @@ dated-at s i = List·getD-map dated (map valued (s .movements)) i (valued noMove
 pub record Walked (s : Statement) (t : List ℤ) (first : ℕ) (b : List ℕ) (now : List ℤ) (at : ℕ) : Type 0 where
   pub i : ℕ
   pub within : i ≤ length (s .movements)
-  pub place : at ≡ (1 + sizes (take i (s .movements))) * 120
-  pub inside : at + 120 ≤ length b
+  pub place : at ≡ (1 + sizes (take i (s .movements))) * recordSize
+  pub inside : at + recordSize ≤ length b
   pub long : length now ≡ length t
   pub table : now ≡ filled first t (take i (datedIn s))
 
 module _ {b : List ℕ} {s : Statement} (r : Reads (codingOf plain) plain b (s ∷ [])) (t : List ℤ) (first : ℕ) where
-  long-body : length b ≡ (sizes (s .movements) + 2) * 120
+  long-body : length b ≡ (sizes (s .movements) + 2) * recordSize
   unfolding widthOf
   long-body = length-part r
 
-  pub walk-start : Walked s t first b t 120
+  pub walk-start : Walked s t first b t recordSize
   unfolding sizes filled
   walk-start = record { i = 0; within = omega arith; place = refl; inside = omega (arith, long-body); long = refl; table = refl }
 
@@ -133,7 +133,7 @@ module _ {b : List ℕ} {s : Statement} (r : Reads (codingOf plain) plain b (s �
     m = getD ms (w .i) noMovement
 
     -- before the 07 a movement stands
-    more : at + 120 < length b → w .i < length ms
+    more : at + recordSize < length b → w .i < length ms
     more h = by (decLt (w .i) (length ms))
       where
         by : Dec (w .i < length ms) → w .i < length ms
@@ -142,12 +142,12 @@ module _ {b : List ℕ} {s : Statement} (r : Reads (codingOf plain) plain b (s �
             let e : take (w .i) ms ≡ ms = take-all (w .i) ms (omega arith) in
             absurd (omega (arith, h, long-body, w .place, ap sizes e))
 
-    upTo : (i : ℕ) → before r 0 (omega arith) i * widthOf recordSize plain ≡ (1 + sizes (take i ms)) * 120
+    upTo : (i : ℕ) → before r 0 (omega arith) i * widthOf recordSize plain ≡ (1 + sizes (take i ms)) * recordSize
     unfolding recordsBefore widthOf
-    upTo i = ap (λ (n : ℕ). n * 120) (omega arith)
+    upTo i = ap (λ (n : ℕ). n * recordSize) (omega arith)
 
-    module _ (h : at + 120 < length b) where
-      step-there : stepOf b plain at ≡ foundStep (length (m .complements)) ((1 + sizes (take (w .i + 1) ms)) * 120)
+    module _ (h : at + recordSize < length b) where
+      step-there : stepOf b plain at ≡ foundStep (length (m .complements)) ((1 + sizes (take (w .i + 1) ms)) * recordSize)
       step-there =
           let q = movement-there r 0 (omega arith) (w .i) (drop-cons ms (w .i) noMovement (more h)) in
           rw (w .place, ← upTo (w .i), ← upTo (w .i + 1)) q
@@ -188,7 +188,7 @@ module _ {b : List ℕ} {s : Statement} (r : Reads (codingOf plain) plain b (s �
         -- and the loop goes on
         pub turned : {now′ : List ℤ} {n : Step} → n ≡ stepOf b plain at → now′ ≡ bump now (ordinalOf (v .value) - first) (v .amount) → Walked s t first b now′ (n .next)
         turned {now′} {n} p q =
-            let z : n .next ≡ (1 + sizes (take (w .i + 1) ms)) * 120 = ap (λ x. x .next) (p ∙ step-there) in
+            let z : n .next ≡ (1 + sizes (take (w .i + 1) ms)) * recordSize = ap (λ x. x .next) (p ∙ step-there) in
             let q′ : now′ ≡ bump now (ordinalOf (m .posting .value) - first) (m .posting .amount) = q ∙ rw (ap (λ x. x .value) same, ap (λ x. x .amount) same) in
             record {
               i = w .i + 1;
@@ -202,11 +202,11 @@ module _ {b : List ℕ} {s : Statement} (r : Reads (codingOf plain) plain b (s �
       -- by a record at least
       pub later : {n : Step} → n ≡ stepOf b plain at → at < n .next
       later {n} p =
-          let z : n .next ≡ (1 + sizes (take (w .i + 1) ms)) * 120 = ap (λ x. x .next) (p ∙ step-there) in
+          let z : n .next ≡ (1 + sizes (take (w .i + 1) ms)) * recordSize = ap (λ x. x .next) (p ∙ step-there) in
           omega (arith, z, w .place, sizes-up (w .i) ms (more h), ap (λ (c : ℕ). sizes (take c ms)) (add-one (w .i)))
 
     -- up to the 07
-    pub walk-end : length b ≤ at + 120 → now ≡ filled first t (datedIn s)
+    pub walk-end : length b ≤ at + recordSize → now ≡ filled first t (datedIn s)
     walk-end h = w .table ∙ rw (take-all (w .i) (datedIn s) (omega (arith, length-dated s, last (decLt (w .i) (length ms)))))
       where
         last : Dec (w .i < length ms) → length ms ≤ w .i

@@ -28,7 +28,7 @@ abbrev pub entrySize : ℕ
 entrySize = 60
 
 abbrev pub tableSize : ℕ
-tableSize = 7680
+tableSize = mostEntries * entrySize
 
 -- the first byte of body line k
 abbrev pub lineAt : ℕ → ℕ

@@ -21,8 +21,12 @@ use Rattle.readers.proofs.Placed.{before-inside}
 use Rattle.readers.proofs.Rows.{some, before-next}
 use Rattle.readers.proofs.Turns.{between, one-more}
 
--- an accepted file is not long
-pub file-small : {f : Form} {b : List ℕ} {ss : List Statement} → Reads (codingOf f) f b ss → length b ≤ 2440000
+-- the longest file: two bytes at most stand after a record
+abbrev pub largestFile : ℕ
+largestFile = mostInFile * (recordSize + 2)
+
+-- no accepted file is longer
+pub file-small : {f : Form} {b : List ℕ} {ss : List Statement} → Reads (codingOf f) f b ss → length b ≤ largestFile
 unfolding widthOf
 file-small {f} {b} {ss} r =
     let l = reads-length (codingOf f) (lawful f) r in
