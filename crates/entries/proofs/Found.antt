@@ -15,7 +15,7 @@ use Rattle.layouts.specs.Zone.{part}
 use Rattle.records.specs.July.{recordSize}
 use Rattle.entries.specs.declared.Entry.{Entry}
 use Rattle.entries.specs.Answers.{EntryAt}
-use Rattle.entries.specs.Entries.{entrySize, mostEntries, noEntry, lineAt, fieldsOf, entryBytes, entryIn, bodyAt}
+use Rattle.entries.specs.Entries.{entrySize, mostEntries, noEntry, lineAt, isUsed, fieldsOf, entryBytes, entryIn, bodyAt}
 
 -- what six and four bytes are worth at most, whatever they are
 pub record Small (x : Entry) : Type 0 where
@@ -29,7 +29,7 @@ fields-small : (x : List ℕ) → Small (fieldsOf x)
 unfolding fieldsOf
 fields-small x = by (eqb (length x) entrySize)
   where
-    by : (t : Bool) → Small (pick t (record { used = not (eqb (getD x 37 0) 32); first = valueOf (part 38 43 x); records = valueOf (part 44 47 x) }) noEntry)
+    by : (t : Bool) → Small (pick t (record { used = isUsed x; first = valueOf (part 38 43 x); records = valueOf (part 44 47 x) }) noEntry)
     by true =
         record {
           first = small-value 6 1666665 (part 38 43 x) (omega (arith, length-take 6 (drop 37 x))) refl;

@@ -21,7 +21,7 @@ use Rattle.records.specs.July.{recordSize, dateIn, canonRecord}
 use Rattle.records.proofs.Canon.{front-kept}
 use Rattle.records.proofs.Lawful.{july-lawful}
 use Rattle.entries.specs.declared.Entry.{Entry}
-use Rattle.entries.specs.Entries.{entrySize, keyText, datesText, placeText, entryText, entryPut, fieldsOf, mostEntries, noEntry, entryBytes, entryIn}
+use Rattle.entries.specs.Entries.{entrySize, keyText, datesText, placeText, entryText, entryPut, isUsed, fieldsOf, mostEntries, noEntry, entryBytes, entryIn}
 
 -- a zone of a whole record is as long as its positions say
 pub length-zone : (n a : ℕ) (r : List ℕ) → length r ≡ recordSize → a + n ≤ recordSize → length (take n (drop a r)) ≡ n
@@ -100,21 +100,25 @@ module _ (first n : ℕ) (o c : List ℕ) (h : length o ≡ recordSize) (k : len
       ap (take 4) (sym (drop-drop 6 37 (entryText first n o c)) ∙ ap (drop 6) place-from ∙ drop-at (digitsOf 6 first) _ 6 (length-digits 6 first))
       ∙ take-at (digitsOf 4 n) _ 4 (length-digits 4 n)
 
-  -- position 38 is a digit
-  first-begins : eqb (getD (entryText first n o c) 37 0) 32 ≡ false
-  first-begins =
+  -- an entry that is written is used: a digit begins its number of records
+  written-used : isUsed (entryText first n o c) ≡ true
+  written-used =
       let x = entryText first n o c in
-      let q : getD (part 38 43 x) 0 0 ≡ getD x 37 0 = getD-take 6 (drop 37 x) 0 0 (omega arith) ∙ getD-drop 37 x 0 0 in
-      let d = every-at (inClass digit) (digitsOf 6 first) 0 (omega (arith, length-digits 6 first)) (digits-all 6 first) in
-      let r = in-range (getD (digitsOf 6 first) 0 0) d in
-      let z : getD x 37 0 ≡ getD (digitsOf 6 first) 0 0 = sym q ∙ ap (λ (l : List ℕ). getD l 0 0) first-digits in
-      ne-eqb (getD x 37 0) 32 (λ e. omega (arith, r .0, z, e))
+      let q : getD (part 44 47 x) 0 0 ≡ getD x 43 0 = getD-take 4 (drop 43 x) 0 0 (omega arith) ∙ getD-drop 43 x 0 0 in
+      let d = every-at (inClass digit) (digitsOf 4 n) 0 (omega (arith, length-digits 4 n)) (digits-all 4 n) in
+      let r = in-range (getD (digitsOf 4 n) 0 0) d in
+      let z : getD x 43 0 ≡ getD (digitsOf 4 n) 0 0 = sym q ∙ ap (λ (l : List ℕ). getD l 0 0) count-digits in
+      ap not (ne-eqb (getD x 43 0) 32 (λ e. omega (arith, r .0, z, e)))
 
   -- what is read of an entry is what was written
   pub entry-read : first < 10 ^ 6 → n < 10 ^ 4 → fieldsOf (entryText first n o c) ≡ record { used = true; first = first; records = n }
   unfolding fieldsOf
   entry-read f m =
-      rw (eq-eqb (length (entryText first n o c)) entrySize length-entry, first-begins, first-digits, count-digits, value-digits 6 first f, value-digits 4 n m)
+      rw (eq-eqb (length (entryText first n o c)) entrySize length-entry, written-used, first-digits, count-digits, value-digits 6 first f, value-digits 4 n m)
+
+-- a blank entry is not used
+pub blank-unused : (x : List ℕ) → ((i : ℕ) → i < entrySize → getD x i 0 ≡ 32) → isUsed x ≡ false
+blank-unused x b = ap not (eq-eqb (getD x 43 0) 32 (b 43 (omega arith)))
 
 -- KEPT: an entry is the same of records as the writer writes them; what it takes of them stands before their amounts
 key-kept : (o : List ℕ) → length o ≡ recordSize → keyText (canonRecord o) ≡ keyText o
@@ -143,7 +147,7 @@ entry-kept first n o c x h k =
 
 -- at the code's returns
 pub fields-read : (x : List ℕ) {a b : ℕ} → length x ≡ entrySize → a ≡ valueOf (part 38 43 x) → b ≡ valueOf (part 44 47 x)
-    → _≡_ {A = Entry} (record { used = not (eqb (getD x 37 0) 32); first = a; records = b }) (fieldsOf x)
+    → _≡_ {A = Entry} (record { used = isUsed x; first = a; records = b }) (fieldsOf x)
 unfolding fieldsOf
 fields-read x l p q = rw (eq-eqb (length x) entrySize l, p, q)
 

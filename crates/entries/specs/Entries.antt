@@ -7,7 +7,7 @@
 --
 --     1-5 bank | 6-10 branch | 11-13 currency | 14 decimals | 15-25 account | 26-31 old date | 32-37 new date
 --     | 38-43 first body line, from 0 | 44-47 number of records | 48-60 blank
-use mathlib.Core.Bool.{false, not, _&&_}
+use mathlib.Core.Bool.{Bool, false, not, _&&_}
 use mathlib.Core.List.{List, [], _∷_}
 use Prim.Native.Nat.{ℕ, _+_, _*_}
 use lib.Dec.{eqb, leb, ltb}
@@ -57,11 +57,14 @@ entryPut first n o c dst = pick (eqb (length dst) entrySize && bothRecords o c) 
 abbrev pub noEntry : Entry
 noEntry = record { used = false; first = 0; records = 0 }
 
--- an entry is used where its first body line does not begin with a blank
+-- AN ENTRY IS USED where position 44 is not blank: its number of records begins there.
+abbrev pub isUsed : List ℕ → Bool
+isUsed x = not (eqb (getD x 43 0) 32)
+
 unfoldable pub fieldsOf : List ℕ → Entry
 fieldsOf x =
     pick (eqb (length x) entrySize)
-    (record { used = not (eqb (getD x 37 0) 32); first = valueOf (part 38 43 x); records = valueOf (part 44 47 x) })
+    (record { used = isUsed x; first = valueOf (part 38 43 x); records = valueOf (part 44 47 x) })
     noEntry
 
 -- the bytes of entry e, from 0

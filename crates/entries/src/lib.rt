@@ -77,13 +77,16 @@ pub fn put_entry(dst: &mut [u8], first: usize, records: usize, opening: &[u8], c
     put_place(&mut dst[37..60], first, records);
 }
 
+// The place, from 0, of the byte that is blank in an unused entry alone.
+const USED: usize = 43;
+
 // What an entry says, whatever its bytes.
 fn entry_fields(x: &[u8]) -> Entry
     requires { ⌜ length (now x) ≡ entrySize ⌝ }
     ensures { λ r. ⌜ r ≡ fieldsOf (now (x .entry)) ⌝ }
 {
     Entry {
-        used: x[37] != b' ',
+        used: x[USED] != b' ',
         first: zones::number(&x[37..43]) as usize,
         records: zones::number(&x[43..47]) as usize,
     }

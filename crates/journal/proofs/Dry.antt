@@ -46,7 +46,7 @@ use Rattle.journal.specs.Plans.{partsFrom, spansFrom, Inside, Reading, w
 use Rattle.journal.proofs.Runs.{hold-held, store-new}
 use Rattle.journal.proofs.Values.{has-room}
 use Rattle.journal.proofs.Written.{layout-all}
-use Rattle.journal.proofs.Turning.{file-small, Turn, turn}
+use Rattle.journal.proofs.Turning.{largestFile, file-small, Turn, turn}
 
 -- ---- one part more
 
@@ -177,7 +177,7 @@ pub record Dry (j : List ℕ) (f : Form) (b places ends : List ℕ) (count taken
   pub reads : Reading f (partsFrom count 0 places ends b) P
   pub roomy : Roomy (length (heldOf j)) (linesOf (heldOf j)) (length j) P
   pub helds : held ≤ at
-  pub short : length b ≤ 2440000
+  pub short : length b ≤ largestFile
   pub rest : run (linesIn j) (heldOf j ++ P) (recordsBefore i (statementsOf (codingOf f) f b)) count held (drop i (statementsOf (codingOf f) f b))
       ≡ run (linesIn j) (heldOf j) 0 0 0 (statementsOf (codingOf f) f b)
   pub new : P ++ arrivals (heldOf j ++ P) (drop i (statementsOf (codingOf f) f b)) ≡ arrivals (heldOf j) (statementsOf (codingOf f) f b)

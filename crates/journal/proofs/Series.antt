@@ -25,7 +25,7 @@ use Rattle.journal.specs.declared.Delivery.the-variants.{Done}
 use Rattle.journal.specs.Delivery.{Outcome, delivered, refused, run, linesIn, outcomeOf, contentOf}
 use Rattle.journal.specs.Answers.{answerOf, Delivers}
 use Rattle.journal.specs.Arrivals.{arrivals, movementsIn, Summed}
-use Rattle.journal.specs.Series.{Event, deliver, Deliver, acceptedBy, afterOne, after, heldAfterOne, heldFrom, heldAfter, accepted, WhollyHeld, Demand3}
+use Rattle.journal.specs.Series.{Event, deliver, Deliver, acceptedBy, afterOne, after, heldAfterOne, heldAlong, heldAfter, accepted, WhollyHeld, Demand3}
 use Rattle.journal.proofs.Values.{held-append}
 use Rattle.journal.proofs.Runs.{held-verdict}
 use Rattle.journal.proofs.Delivered.{lines-are, outcome-by, Stored, stored, unchanged, content-long, opened-long, opened}
@@ -48,17 +48,17 @@ arrivals-append H (s ∷ A) B = by (heldAmong s H) (arrivals-append H A B) (arri
 -- ---- any delivery
 
 -- those of the accepted files come behind the statements held before, in order of first arrival
-held-from : (D : Deliver) (j : List ℕ) (H : List Statement) (es : List Event) → heldFrom D j H es ≡ H ++ arrivals H (accepted D j es)
-unfolding heldFrom accepted arrivals
-held-from D j H [] = sym (append-nil H)
-held-from D j H (deliver f b ∷ es) =
+held-along : (D : Deliver) (j : List ℕ) (H : List Statement) (es : List Event) → heldAlong D j H es ≡ H ++ arrivals H (accepted D j es)
+unfolding heldAlong accepted arrivals
+held-along D j H [] = sym (append-nil H)
+held-along D j H (deliver f b ∷ es) =
     let A = acceptedBy (D j f b .answer) (statementsOf (codingOf f) f b) in
     let B = accepted D (D j f b .journal) es in
-    rw (arrivals-append H A B, ← append-assoc H (arrivals H A) (arrivals (H ++ arrivals H A) B)) (held-from D (D j f b .journal) (H ++ arrivals H A) es)
+    rw (arrivals-append H A B, ← append-assoc H (arrivals H A) (arrivals (H ++ arrivals H A) B)) (held-along D (D j f b .journal) (H ++ arrivals H A) es)
 
 -- IN THE PAPER'S WORDS: the statements held are those of the accepted files, in order of first arrival
 pub held-arrivals : (D : Deliver) (j : List ℕ) (es : List Event) → heldAfter D j es ≡ arrivals [] (accepted D j es)
-held-arrivals D j es = held-from D j [] es
+held-arrivals D j es = held-along D j [] es
 
 -- a series in two
 after-append : (D : Deliver) (j : List ℕ) (es fs : List Event) → after D j (es ++ fs) ≡ after D (after D j es) fs
@@ -86,8 +86,8 @@ one-event : {j : List ℕ} {H : List Statement} → Journal j H → (e : Event) 
 one-event g (deliver f b) = one-more g f b
 
 -- a series: what it leaves
-series : {j : List ℕ} {H : List Statement} → Journal j H → (es : List Event) → Journal (after ours j es) (heldFrom ours j H es)
-unfolding after heldFrom
+series : {j : List ℕ} {H : List Statement} → Journal j H → (es : List Event) → Journal (after ours j es) (heldAlong ours j H es)
+unfolding after heldAlong
 series g [] = g
 series g (e ∷ es) = series (one-event g e) es
 
@@ -145,8 +145,8 @@ keeps-held : (D : Deliver) (j : List ℕ) (H ss : List Statement) (e : Event) �
 keeps-held D j H ss (deliver f b) h = held-more H (arrivals H (acceptedBy (D j f b .answer) (statementsOf (codingOf f) f b))) ss h
 
 -- and after a series
-ever-held : (D : Deliver) (j : List ℕ) (H ss : List Statement) (es : List Event) → HeldBy H ss → HeldBy (heldFrom D j H es) ss
-unfolding heldFrom
+ever-held : (D : Deliver) (j : List ℕ) (H ss : List Statement) (es : List Event) → HeldBy H ss → HeldBy (heldAlong D j H es) ss
+unfolding heldAlong
 ever-held D j H ss [] h = h
 ever-held D j H ss (e ∷ es) h = ever-held D (afterOne D j e) (heldAfterOne D j H e) ss es (keeps-held D j H ss e h)
 

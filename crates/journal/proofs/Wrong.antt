@@ -29,7 +29,7 @@ use Rattle.journal.specs.declared.Refusal.{Refusal}
 use Rattle.journal.specs.Delivery.{verdictOf, delivered, run, linesIn, outcomeOf, contentOf}
 use Rattle.journal.specs.Answers.{Delivers}
 use Rattle.journal.specs.Arrivals.{arrivals}
-use Rattle.journal.specs.Series.{deliver, Deliver, after, heldFrom, Demand3}
+use Rattle.journal.specs.Series.{deliver, Deliver, after, heldAlong, Demand3}
 use Rattle.journal.proofs.Delivered.{file-writable, outcome-by, opened-long, opened}
 use Rattle.journal.proofs.Paper.{delivers}
 
@@ -109,12 +109,12 @@ module _ {O : List ℕ → List ℕ} {D : Deliver} (d : Demand3 O D) where
   module _ (j : List ℕ) (right : isLength (length j) ≡ true) (f : Form) (b : List ℕ) {x y : ℕ} (done : D (O j) f b .answer ≡ Done x y) where
     -- what must be held after it
     must-hold : Journal (D (O j) f b .journal) (arrivals [] (statementsOf (codingOf f) f b))
-    unfolding after heldFrom
+    unfolding after heldAlong
     must-hold = rw done at (d .holds j right (deliver f b ∷ []))
 
     -- the journal is not as it was where the file has a statement
     pub not-unchanged : {s : Statement} {ss : List Statement} → statementsOf (codingOf f) f b ≡ s ∷ ss → D (O j) f b .journal ≡ O j → ⊥
-    unfolding after heldFrom arrivals heldAmong
+    unfolding after heldAlong arrivals heldAmong
     not-unchanged {s} {ss} e n =
         let h : Journal (O j) [] = d .holds j right [] in
         let g : Journal (O j) (s ∷ arrivals (s ∷ []) ss) = rw (n, e) at must-hold in
@@ -157,7 +157,7 @@ module _ {O : List ℕ → List ℕ} {D : Deliver} (d : Demand3 O D) where
 
   -- one that makes up its two counts
   pub made-up-counts : (s h : ℕ) → (Done s h ≡ Done 2 0 → ⊥) → D (O room) (form 1) two .answer ≡ Done s h → ⊥
-  unfolding after heldFrom arrivals heldAmong
+  unfolding after heldAlong arrivals heldAmong
   made-up-counts s h n e =
       let c = rw (two-hold, two-differ) at (d .counts room room-right [] (form 1) two s h e) in
       let p : s ≡ 2 = c .0 in

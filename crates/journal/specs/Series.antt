@@ -48,14 +48,14 @@ module _ (D : Deliver) where
   abbrev pub heldAfterOne : List ℕ → List Statement → Event → List Statement
   heldAfterOne j hs (deliver f b) = hs ++ arrivals hs (acceptedBy (D j f b .answer) (statementsOf (codingOf f) f b))
 
-  -- the statements held after a series, where hs were held
-  unfoldable pub heldFrom : List ℕ → List Statement → List Event → List Statement
-  heldFrom j hs [] = hs
-  heldFrom j hs (e ∷ es) = heldFrom (afterOne j e) (heldAfterOne j hs e) es
+  -- the statements held along a series, where hs were held
+  unfoldable pub heldAlong : List ℕ → List Statement → List Event → List Statement
+  heldAlong j hs [] = hs
+  heldAlong j hs (e ∷ es) = heldAlong (afterOne j e) (heldAfterOne j hs e) es
 
   -- the same, where none was held
   abbrev pub heldAfter : List ℕ → List Event → List Statement
-  heldAfter j es = heldFrom j [] es
+  heldAfter j es = heldAlong j [] es
 
   -- in the paper's words: the statements of the accepted files of a series, one file after another; accepted means here: delivered without a refusal
   unfoldable pub accepted : List ℕ → List Event → List Statement

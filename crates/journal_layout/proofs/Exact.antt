@@ -25,7 +25,8 @@ use Rattle.grammar.specs.Parts.{sizeOf, recordsBefore, noStatement}
 use Rattle.records.specs.July.{recordSize, july, noDebitZero, codingOf}
 use Rattle.bodies.specs.Bodies.{bodyOf, single, statementOf}
 use Rattle.bodies.proofs.Single.{body-reads, body-own, body-single, reads-statement}
-use Rattle.entries.specs.Entries.{mostEntries, entrySize, tableSize, lineAt, noEntry, fieldsOf, entryBytes, entryIn, linesFrom, bodyAt}
+use Rattle.entries.specs.Entries.{mostEntries, entrySize, tableSize, lineAt, noEntry, isUsed, fieldsOf, entryBytes, entryIn, linesFrom, bodyAt}
+use Rattle.entries.proofs.Written.{blank-unused}
 use Rattle.journal_layout.specs.Chains.{ofAccount}
 use Rattle.journal_layout.specs.Layout.{mostLines, isLength, linesOf, entryOf, entriesOf, bodiesOf, journalOf, Journal}
 use Rattle.journal_layout.specs.Test.{fitsIn, restBlank, walkIn, soundIn, readFrom, heldOf}
@@ -228,16 +229,16 @@ unused-there j e k i r g h l = rw (lt-leb mostEntries i h) (by (eqb (length (ent
     rest : List ℕ
     rest = take (tableSize - entrySize * e) (drop (entrySize * e) j)
 
-    byte : getD (entryBytes j i) 37 0 ≡ 32
-    byte =
-        let d = entrySize * (i - e) + 37 in
+    byte : (p : ℕ) → p < entrySize → getD (entryBytes j i) p 0 ≡ 32
+    byte p q =
+        let d = entrySize * (i - e) + p in
         let n = length-take-le (tableSize - entrySize * e) (drop (entrySize * e) j) (omega (arith, length-drop (entrySize * e) j)) in
         let b = every-at (inClass blank) rest d (omega arith) (and-left (all blank rest) _ r) in
         let c = in-range (getD rest d 0) b in
         let z : getD rest d 0 ≡ 32 = omega (arith, c .0, c .1) in
-        let y : entrySize * e + d ≡ entrySize * i + 37 = omega arith in
-        getD-take entrySize (drop (entrySize * i) j) 37 0 (omega arith)
-        ∙ getD-drop (entrySize * i) j 37 0
+        let y : entrySize * e + d ≡ entrySize * i + p = omega arith in
+        getD-take entrySize (drop (entrySize * i) j) p 0 q
+        ∙ getD-drop (entrySize * i) j p 0
         ∙ ap (λ (m : ℕ). getD j m 0) (sym y)
         ∙ sym (getD-drop (entrySize * e) j d 0)
         ∙ sym (getD-take (tableSize - entrySize * e) (drop (entrySize * e) j) d 0 (omega arith))
@@ -246,13 +247,13 @@ unused-there j e k i r g h l = rw (lt-leb mostEntries i h) (by (eqb (length (ent
     by : (t : Bool)
         → pick t
         (record {
-          used = not (eqb (getD (entryBytes j i) 37 0) 32);
+          used = isUsed (entryBytes j i);
           first = valueOf (part 38 43 (entryBytes j i));
           records = valueOf (part 44 47 (entryBytes j i));
         })
         noEntry .used
         ≡ false
-    by true = rw (eq-eqb (getD (entryBytes j i) 37 0) 32 byte)
+    by true = blank-unused (entryBytes j i) byte
     by false = refl
 
 -- the statement behind those of H

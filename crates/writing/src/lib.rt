@@ -6,7 +6,7 @@ ghost use Rattle.zones.specs.Class.{inClass};
 ghost use Rattle.zones.specs.Class.Class.{digit, flag};
 ghost use Rattle.dates.specs.Days.{isDay};
 ghost use Rattle.amounts.specs.Amounts.{hasAmount};
-ghost use Rattle.records.specs.July.{recordSize};
+ghost use Rattle.records.specs.July.{recordSize, textSize};
 ghost use Rattle.writing.specs.Written.{postingOf, keyHolds, postingHolds, mmoHolds, plainHolds};
 ghost use Rattle.writing.specs.Groups.{bankText, accountText, frontText, balanceText, middleText, lastText};
 ghost use Rattle.writing.specs.Answers.{BalanceFits, RowFits, TextFits, IsMmo, PutOpening, PutClosing, PutMovement, PutComplement};
@@ -77,7 +77,7 @@ pub fn is_mmo(text: &[u8]) -> bool
 }
 
 fn mmo_fits(text: &[u8]) -> bool
-    requires { ⌜ length (now text) ≡ 73 ⌝ }
+    requires { ⌜ length (now text) ≡ textSize ⌝ }
     ensures { λ r. ⌜ r ≡ mmoHolds (now (text .entry)) ⌝ }
 {
     zones::letters(&text[3..6])
@@ -86,7 +86,7 @@ fn mmo_fits(text: &[u8]) -> bool
 }
 
 fn plain_fits(text: &[u8]) -> bool
-    requires { ⌜ length (now text) ≡ 73 ⌝ }
+    requires { ⌜ length (now text) ≡ textSize ⌝ }
     ensures { λ r. ⌜ r ≡ plainHolds (now (text .entry)) ⌝ }
 {
     zones::alnums(&text[0..3]) & zones::permitted(&text[3..73])

@@ -34,11 +34,11 @@ pub fn listed(journal: &[u8], e: u64, row: &mut [u8]) -> Result<Listed, Refusal>
     Ok(listed)
 }
 
-/// The bytes of entry e, if its first digit of the first body line is not blank.
+/// The bytes of entry e, if its first digit of the number of records is not blank.
 fn used_entry(journal: &[u8], e: u64) -> Option<&[u8]> {
     let entries = journal.chunks_exact(ENTRY).take(ENTRIES);
     let (_, entry) = (1..).zip(entries).find(|&(number, _)| number == e)?;
-    (zone(entry, 38, 38) != b" ").then_some(entry)
+    (zone(entry, 44, 44) != b" ").then_some(entry)
 }
 
 /// The key as it stands, and both dates.

@@ -124,7 +124,7 @@ impl Series {
     /// How many entries, from the first on, do not say that they are unused.
     fn entries_used(&self) -> u64 {
         let entries = self.journal.chunks_exact(ENTRY).take(ENTRIES);
-        entries.take_while(|entry| entry[37] != b' ').count() as u64
+        entries.take_while(|entry| entry[43] != b' ').count() as u64
     }
 
     /// What an entry says, in a row of so many bytes.

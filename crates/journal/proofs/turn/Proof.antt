@@ -3,6 +3,7 @@ use native.Mathlib.Nat.{div-le-self}
 use native.Mathlib.Omega.{arith}
 use borrow.Author.Tests.{ltb-false}
 use Rattle.framing.specs.Files.{lineEnd, widthOf}
+use Rattle.records.specs.July.{recordSize}
 use Rattle.journal.proofs.Values.{turned}
 use borrow.Author.Needs.{needs}
 use Rattle.journal.proofs.turn.Statement.{statement}
@@ -36,7 +37,7 @@ div-verdict-by-2 : tie.Need-div-verdict-by-2
 div-verdict-by-2 c = search needs
 
 add-verdict-by-2 : tie.Need-add-verdict-by-2
-add-verdict-by-2 c = let r = c .before .before .before .before .before .before .before .pre .rises in omega (arith, div-le-self (c .before .before .before .before .before .before .before .args .at) (120 + c .before .before .before .before .before .before .before .args .form .«line_end»))
+add-verdict-by-2 c = let r = c .before .before .before .before .before .before .before .pre .rises in omega (arith, div-le-self (c .before .before .before .before .before .before .before .args .at) (recordSize + c .before .before .before .before .before .before .before .args .form .«line_end»))
 
 verdict-by-requires : tie.Need-verdict-by-requires
 verdict-by-requires c κs = search needs
