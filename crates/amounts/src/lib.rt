@@ -63,11 +63,16 @@ fn is_negative(v: i64) -> bool
     v < 0
 }
 
+// The largest amount: fourteen digits; and the least.
+const MOST_AMOUNT: i64 = 99999999999999;
+
+const LEAST_AMOUNT: i64 = -MOST_AMOUNT;
+
 // Whether an amount can have the value: fourteen digits at most, either way.
 pub fn has_amount(v: i64) -> bool
     ensures { λ r. ⌜ HasAmount v r ⌝ }
 {
-    (-99999999999999 <= v) & (v <= 99999999999999)
+    (LEAST_AMOUNT <= v) & (v <= MOST_AMOUNT)
 }
 
 // A number without its sign. The least i64 is covered too: one is taken off before the sign turns.

@@ -22,7 +22,7 @@ use Rattle.grammar.specs.Parts.{sizeOf}
 use Rattle.grammar.proofs.Canonical.{wide-all}
 use Rattle.grammar.proofs.Exact.{reads-rows}
 use Rattle.grammar.proofs.Trips.{one-records}
-use Rattle.records.specs.July.{recordSize, july, july2004, encodeRecord, codingOf}
+use Rattle.records.specs.July.{recordSize, july, encodeRecord, codingOf, editionOf}
 use Rattle.records.proofs.Lawful.{lawful}
 use Rattle.records.proofs.Theorems.{unique}
 use Rattle.readers.proofs.Rows.{some}
@@ -63,7 +63,7 @@ module _ (f g : Form) where
 -- the records of a statement's part, as they are kept, are its body
 kept-of : {f : Form} {b : List ℕ} {s : Statement} → Reads (codingOf f) f b (s ∷ []) → flat (map keptIn (piecesOf recordSize f b)) ≡ bodyOf s
 unfolding bodyOf kept
-kept-of {f} {b} {s} r = ap flat (reads-rows (codingOf f) (lawful f) r ∙ ap (map encodeRecord) (one-records july2004 s))
+kept-of {f} {b} {s} r = ap flat (reads-rows (codingOf f) (lawful f) r ∙ ap (map encodeRecord) (one-records (editionOf f) s))
 
 pub same-identical : {f g : Form} {a b : List ℕ} {s t : Statement} → Reads (codingOf f) f a (s ∷ []) → Reads (codingOf g) g b (t ∷ []) → sameRecords f a g b ≡ identical s t
 unfolding sameRecords identical

@@ -8,6 +8,7 @@ ghost use Rattle.framing.specs.Files.{chunks, piecesOf, plain};
 ghost use Rattle.bodies.specs.Bodies.{kept, sameRecord, sameRows, keptRows};
 ghost use Rattle.bodies.specs.Answers.{IsSingle, SameRecords, ClosingOf, PutBody};
 use framing::Form;
+use framing::PLAIN;
 use records::RECORD;
 use statements::Checked;
 
@@ -43,7 +44,7 @@ fn no_debit_zero(body: &[u8]) -> bool
 pub fn is_single(body: &[u8]) -> bool
     ensures { λ t. ⌜ IsSingle (now (body .entry)) t ⌝ }
 {
-    match statements::check(Form { line_end: 0 }, body) {
+    match statements::check(PLAIN, body) {
         Checked::Accepted {
             statements,
             movements: _,

@@ -15,9 +15,9 @@ use mir.Val.{toZ, ofZ}
 use borrow.Author.Tests.{eq-eqb, eqb-true, lt-ltb, le-ltb, ltb-true, ltb-false}
 use Rattle.framing.specs.Files.{plain}
 use Rattle.zones.specs.Choice.{pick}
-use Rattle.dates.specs.Days.{daysIn, exists, isDay}
-use Rattle.dates.specs.Ordinals.{beforeMonth, beforeYear, allDays, ordinalOf, ofOrdinal}
-use Rattle.dates.proofs.Ordinals.{ordinal-less, ordinal-below, ordinal-day, ordinal-none, ordinal-order}
+use Rattle.dates.specs.Days.{isDay}
+use Rattle.dates.specs.Ordinals.{allDays, lastDay, ordinalOf, ofOrdinal}
+use Rattle.dates.proofs.Ordinals.{last-day, last-ordinal, ordinal-less, ordinal-below, ordinal-day, ordinal-none, ordinal-order}
 use Rattle.grammar.specs.declared.Key.{Key}
 use Rattle.grammar.specs.Record.{sameKey}
 use Rattle.grammar.specs.Statements.{Statement}
@@ -40,20 +40,12 @@ use Rattle.cash.proofs.Filling.{look-back}
 
 -- ---- days
 
-pub last-day : isDay 20791231 ≡ true
-unfolding isDay exists daysIn
-last-day = refl
-
-pub last-ordinal : ordinalOf 20791231 + 1 ≡ allDays
-unfolding ordinalOf isDay exists daysIn beforeYear beforeMonth
-last-ordinal = refl
-
 -- no day after 31 December 2079
-pub past-all : (k : ℕ) → 20791231 < k → allDays ≡ ordinalOf k
+pub past-all : (k : ℕ) → lastDay < k → allDays ≡ ordinalOf k
 past-all k h = by (isDay k) refl
   where
     by : (t : Bool) → isDay k ≡ t → allDays ≡ ordinalOf k
-    by true e = absurd (omega (arith, ordinal-less 20791231 k last-day e h, ordinal-below k e, last-ordinal))
+    by true e = absurd (omega (arith, ordinal-less lastDay k last-day e h, ordinal-below k e, last-ordinal))
     by false e = sym (ordinal-none k e)
 
 -- the day so many days after a day

@@ -12,8 +12,8 @@ use lib.IntN.{ℤ, pos, natAbs, _-ℤ_}
 use borrow.Author.Tests.{eq-eqb, eqb-true, lt-ltb}
 use Rattle.zones.specs.Choice.{pick}
 use Rattle.dates.specs.Days.{isDay}
-use Rattle.dates.specs.Ordinals.{allDays, ordinalOf, nextDay, dayAfter, ofOrdinal}
-use Rattle.dates.proofs.Ordinals.{ordinal-below, ordinal-order, ordinal-of, of-ordinal, of-ordinal-day, not-last}
+use Rattle.dates.specs.Ordinals.{allDays, lastDay, ordinalOf, nextDay, dayAfter, ofOrdinal}
+use Rattle.dates.proofs.Ordinals.{last-day as last-of-all, last-ordinal, ordinal-below, ordinal-order, ordinal-of, of-ordinal, of-ordinal-day, not-last}
 use Rattle.framing.specs.Files.{All, widthOf, plain}
 use Rattle.grammar.specs.declared.Key.{Key}
 use Rattle.grammar.specs.Statements.{Statement}
@@ -41,7 +41,7 @@ use Rattle.cash.proofs.Group.{less}
 use Rattle.cash.proofs.Rows.{no-movement}
 use Rattle.cash.proofs.Spans.{next-day-amount, day-at}
 use Rattle.cash.proofs.Account.{account-days, account-fits, account-last}
-use Rattle.cash.proofs.Asking.{last-day as last-of-all, last-ordinal, Spanned, spanned, not-spanned}
+use Rattle.cash.proofs.Asking.{Spanned, spanned, not-spanned}
 
 -- ---- an account of which a statement is held
 
@@ -69,7 +69,7 @@ module _ {j : List ℕ} {ss : List Statement} (p : Promise j ss) (k : Key) where
     unmoved e = from-first ∙ ap (λ l. valueAt (a .first .old-balance) l day) e ∙ no-movement (a .first .old-balance) day
 
   -- A DAY'S AMOUNT LESS THE DAY'S BEFORE is the sum of the movements valued that day
-  pub difference : (day : ℕ) → isDay day ≡ true → day < 20791231 → balanceAt k (nextDay day) ss -ℤ balanceAt k day ss ≡ sumOn (movementsOf k ss) (nextDay day)
+  pub difference : (day : ℕ) → isDay day ≡ true → day < lastDay → balanceAt k (nextDay day) ss -ℤ balanceAt k day ss ≡ sumOn (movementsOf k ss) (nextDay day)
   unfolding balanceAt
   difference day h l =
       let b = firstBalance (ofAccount k ss) in
@@ -132,11 +132,11 @@ module _ (first i : ℕ) (day : isDay first ≡ true) where
       rw (day, z, lt-ltb (suc (ordinalOf first + i)) allDays (omega arith), lt-ltb (ordinalOf first + i) allDays (omega arith))
 
   -- it is not the last day of all
-  later-early : ordinalOf first + (i + 1) < allDays → laterDay first i < 20791231
+  later-early : ordinalOf first + (i + 1) < allDays → laterDay first i < lastDay
   later-early l =
       let m : ordinalOf first + i < allDays = omega arith in
       let o : ordinalOf (laterDay first i) ≡ ordinalOf first + i = rw later-is (ordinal-of (ordinalOf first + i) m) in
-      ordinal-order (laterDay first i) 20791231 (later-day m) last-of-all .1 (omega (arith, o, last-ordinal))
+      ordinal-order (laterDay first i) lastDay (later-day m) last-of-all .1 (omega (arith, o, last-ordinal))
 
 -- ---- the table
 

@@ -22,15 +22,14 @@ ghost use Rattle.cash.specs.Buckets.{dated, datedIn, rowOf, bump, filled
 ghost use Rattle.cash.specs.Calls.{spanOf, firstFrom, Adding, Entering, Filling, Runs, Opening};
 ghost use Rattle.cash.specs.Answers.{Positions, PositionNumber, Balance, DayAfter};
 use dates::ALL_DAYS;
+use dates::LAST_DAY;
 use framing::Form;
+use framing::PLAIN;
 use journal::Holding;
 use records::RECORD;
 
 // Days of the longest span.
 const MOST_DAYS: u32 = 400;
-
-// The number of the last day of all.
-const LAST_DAY: u64 = 20791231;
 
 // How many days were filled; or a refusal's number and record.
 pub enum Outcome {
@@ -66,7 +65,7 @@ fn add_body(table: &mut [i64], first: u32, body: &[u8])
 {
     let mut at: usize = RECORD;
     while at + RECORD < body.len() {
-        let step = readers::movement_step(body, Form { line_end: 0 }, at);
+        let step = readers::movement_step(body, PLAIN, at);
         let m = fields::valued_at(contents::record_at(body, at));
         let i = place(first, dates::ordinal(m.value));
         add_at(table, i, m.amount);
@@ -262,7 +261,7 @@ pub extern "C" fn crownhazel_balance(journal: &[u8], entry: u64) -> i64
     ensures { λ r. ⌜ Balance (now (journal .entry)) entry r ⌝ }
 {
     let body = journal::body(journal, entry);
-    let k = records::look_at(bodies::closing_of(Form { line_end: 0 }, body));
+    let k = records::look_at(bodies::closing_of(PLAIN, body));
     k.amount
 }
 

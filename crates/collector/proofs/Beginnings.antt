@@ -4,6 +4,7 @@ use mathlib.Core.Logic.{_↔_}
 use mathlib.Core.List.{List}
 use Prim.Native.Nat.{ℕ, _≤_}
 use native.Mathlib.Omega.{arith}
+use Rattle.dates.specs.Ordinals.{lastDay}
 use Rattle.packing.specs.Packing.{kindIn}
 use Rattle.packing.proofs.Packing.{kind-back}
 use Rattle.grammar.specs.Answer.{Answer, accepted, refused}
@@ -15,7 +16,6 @@ use Rattle.contents.specs.declared.Beginning.the-variants as B
 use Rattle.contents.proofs.Begun.{earliest-told}
 use Rattle.contents.specs.Answers.{paperBeginning}
 use Rattle.collector.specs.Packing.{packedBeginning, packedDay}
-use Rattle.collector.specs.Bounds.{lastDay}
 use Rattle.collector.specs.Answers.{form, earliestAnswer, CheckNumber, EarliestNumber}
 use Rattle.collector.proofs.Bounds.{check-bounds, earliest-bounds}
 use Rattle.collector.proofs.Packing.{counted-fits, day-fits}

@@ -9,6 +9,7 @@ use lib.ListN.{length-map, length, take, getD, length-append}
 use borrow.Author.Tests.{eqb-true, ltb-true, ltb-false}
 use Rattle.zones.specs.Choice.{pick}
 use Rattle.zones.proofs.Bools.{and-left, and-right}
+use Rattle.dates.specs.Ordinals.{lastDay}
 use Rattle.framing.specs.declared.Form.{Form}
 use Rattle.framing.specs.declared.Frame.the-variants as F
 use Rattle.framing.specs.Files.{widthOf, countOf, unknownEnd}
@@ -45,9 +46,9 @@ use Rattle.journal_layout.proofs.Exact.{journal-length, journal-held, sound-jou
 use Rattle.journal_layout.proofs.Places.{stood}
 use Rattle.journal_layout.proofs.Listing.{listed as place-listed}
 use Rattle.journal.specs.declared.Verdict.the-variants.{Hold, Store, Refuse}
-use Rattle.journal.specs.Delivery.{refusal, isHeld, verdictOf, Outcome, refused, proceed, run, linesIn, outcomeOf}
+use Rattle.journal.specs.Delivery.{refusal, notNext, isHeld, verdictOf, Outcome, refused, proceed, run, linesIn, outcomeOf}
 use Rattle.journal.specs.Answers.{answerOf}
-use Rattle.collector.specs.Bounds.{lastRefusal, lastDay, RefusalBounds, Body, Lines, CheckBounds, OpeningBounds, DeliveryBounds, EntryBounds, ListedBounds, UsageBounds, LengthBounds, BeginningBounds}
+use Rattle.collector.specs.Bounds.{lastRefusal, RefusalBounds, Body, Lines, CheckBounds, OpeningBounds, DeliveryBounds, EntryBounds, ListedBounds, UsageBounds, LengthBounds, BeginningBounds}
 use Rattle.collector.specs.Answers.{form, openAnswer, listedBy, listedAnswer, lengthAnswer}
 
 -- ---- the check
@@ -172,7 +173,7 @@ run-bounds E n hs behind stored held (s ∷ ss) l =
         → behind + 1 ≤ mostInFile
         → DeliveryBounds
         (answerOf
-        (proceed (pick t Hold (pick u (pick v (pick w Store (Refuse (refusal 24 (behind + 1)))) (Refuse (refusal 23 (behind + 1)))) (Refuse (refusal 22 (behind + 1))))) H S refused))
+        (proceed (pick t Hold (pick u (pick v (pick w Store (Refuse (refusal 24 (behind + 1)))) (Refuse (refusal 23 (behind + 1)))) (Refuse (notNext (judgementOf s hs) (behind + 1))))) H S refused))
     by H S true u v w e h s r = h
     by H S false true true true e h s r = s (ltb-true (length hs) mostEntries e)
     by H S false true true false e h s r = record { some = omega arith; listed = omega arith; near = r }

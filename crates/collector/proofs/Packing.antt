@@ -6,6 +6,7 @@ use native.Mathlib.Omega.{arith}
 use lib.Dec.{eqb}
 use borrow.Author.Tests.{ne-eqb}
 use mathlib.Core.Bool.{false}
+use Rattle.dates.specs.Ordinals.{lastDay}
 use Rattle.packing.specs.Packing.{bit20, Fits, packed, refusedOf}
 use Rattle.packing.proofs.Packing.{a-back, b-back, c-back, kind-back, refused-fits}
 use Rattle.framing.specs.declared.Frame.{Frame}
@@ -37,7 +38,7 @@ use Rattle.journal.specs.declared.Delivery.the-variants as D
 use Rattle.journal.specs.Answers.{paperDelivery, deliveryBy}
 use Rattle.journal.proofs.Paper as J
 use Rattle.collector.specs.Packing.{packedCheck, packedOpening, packedDelivery, packedEntry, packedUsage, packedLength, packedBeginning, paperCheckIn, paperOpeningIn, paperDeliveryIn, paperPlaceIn, paperUsageIn, paperLengthIn, packedDay, paperBeginningIn}
-use Rattle.collector.specs.Bounds.{RefusalBounds, Counted, Told, Body, Lines, Filled, CheckBounds, OpeningBounds, DeliveryBounds, EntryBounds, ListedBounds, UsageBounds, LengthBounds, lastDay, BeginningBounds}
+use Rattle.collector.specs.Bounds.{RefusalBounds, Counted, Told, Body, Lines, Filled, CheckBounds, OpeningBounds, DeliveryBounds, EntryBounds, ListedBounds, UsageBounds, LengthBounds, BeginningBounds}
 use Rattle.collector.specs.Answers.{form, checkAnswer, openAnswer, deliverAnswer, listedAnswer, lengthAnswer, earliestAnswer, CheckNumber, OpenNumber, DeliverNumber, EntryNumber, UsedNumber, ListedNumber, LengthNumber, EarliestNumber}
 use Rattle.collector.proofs.Bounds.{check-bounds, opening-bounds, delivery-bounds, entry-bounds, listed-bounds, usage-bounds, length-bounds, earliest-bounds}
 

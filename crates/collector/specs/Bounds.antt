@@ -1,6 +1,7 @@
 -- How large the numbers of an answer can be.
 use mathlib.Core.Path.{_≡_}
 use Prim.Native.Nat.{ℕ, _*_, _<_, _≤_}
+use Rattle.dates.specs.Ordinals.{lastDay}
 use Rattle.records.specs.July.{recordSize, mostInFile, mostInStatement}
 use Rattle.framing.specs.declared.Frame.{Frame}
 use Rattle.framing.specs.declared.Frame.the-variants as F
@@ -22,10 +23,6 @@ use Rattle.journal.specs.declared.Delivery.the-variants as D
 -- the last number of the list of refusals
 abbrev pub lastRefusal : ℕ
 lastRefusal = 25
-
--- 31 December 2079: the years end there
-abbrev pub lastDay : ℕ
-lastDay = 20791231
 
 -- a number of that list, and a record that a file can have, 0 for none
 pub record RefusalBounds (number at : ℕ) : Type 0 where

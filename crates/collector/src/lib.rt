@@ -1,8 +1,8 @@
 // What the collector's host program calls. Each function answers one number that holds its whole answer, by `specs/Packing.antt`.
 ghost use Rattle.collector.specs.Answers.{CheckNumber, OpenNumber, DeliverNumber, EntryNumber, UsedNumber, ListedNumber, LengthNumber, EarliestNumber};
 use contents::Beginning;
+use entries::CONTENTS;
 use entries::ROW;
-use entries::TABLE;
 use framing::Form;
 use framing::Frame;
 use journal::Delivery;
@@ -58,7 +58,11 @@ pub extern "C" fn crownhazel_entry(journal: &[u8], entry: u64) -> u64
 {
     match journal_layout::entry_place(journal, entry) {
         Place::At { first, len } => {
-            packing::answered((len / RECORD) as u64, ((first - TABLE) / RECORD) as u64, 0)
+            packing::answered(
+                (len / RECORD) as u64,
+                ((first - CONTENTS) / RECORD) as u64,
+                0,
+            )
         }
         Place::Refused { number, record } => packing::refused(number, record),
     }
@@ -90,7 +94,11 @@ pub extern "C" fn crownhazel_listed(journal: &[u8], entry: u64, row: &mut [u8]) 
                 return packing::refused(20, 0);
             }
             entries::put_row(&mut row[0..ROW], journal, (entry - 1) as usize);
-            packing::answered((len / RECORD) as u64, ((first - TABLE) / RECORD) as u64, 0)
+            packing::answered(
+                (len / RECORD) as u64,
+                ((first - CONTENTS) / RECORD) as u64,
+                0,
+            )
         }
         Place::Refused { number, record } => packing::refused(number, record),
     }

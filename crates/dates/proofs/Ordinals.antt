@@ -12,7 +12,7 @@ use Rattle.zones.specs.Choice.{pick}
 use Rattle.zones.proofs.Bools.{and-left, and-right, both}
 use Rattle.dates.specs.Days.{daysIn, exists, dayNumber, Before, isDay}
 use Rattle.dates.proofs.Order.{order}
-use Rattle.dates.specs.Ordinals.{beforeMonth, beforeYear, allDays, ordinalOf, nextIn, nextDay, dayAfter, ofOrdinal}
+use Rattle.dates.specs.Ordinals.{beforeMonth, beforeYear, allDays, lastDay, ordinalOf, nextIn, nextDay, dayAfter, ofOrdinal}
 use Rattle.dates.proofs.Months.{years, later, is-month, month-days, month-some, january, first-year}
 
 -- a day of the year 1980 + n
@@ -296,13 +296,13 @@ ordinal-day k h = by (isDay k) refl
     by false e = absurd (omega (arith, h, ordinal-none k e))
 
 -- every day before 31 December 2079 has a next one
-last-day : isDay 20791231 ≡ true
+pub last-day : isDay lastDay ≡ true
 unfolding isDay exists daysIn
 last-day = refl
 
-last-ordinal : suc (ordinalOf 20791231) ≡ allDays
+pub last-ordinal : suc (ordinalOf lastDay) ≡ allDays
 unfolding ordinalOf isDay exists daysIn beforeYear beforeMonth
 last-ordinal = refl
 
-pub not-last : (k : ℕ) → isDay k ≡ true → k < 20791231 → suc (ordinalOf k) < allDays
-not-last k h l = omega (arith, ordinal-less k 20791231 h last-day l, last-ordinal)
+pub not-last : (k : ℕ) → isDay k ≡ true → k < lastDay → suc (ordinalOf k) < allDays
+not-last k h l = omega (arith, ordinal-less k lastDay h last-day l, last-ordinal)

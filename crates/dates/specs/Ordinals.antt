@@ -22,6 +22,10 @@ daysBefore y m d = beforeYear (y - 1980) + beforeMonth y m + (d - 1)
 abbrev pub allDays : ℕ
 allDays = 36525
 
+-- 31 December 2079: the years end there
+abbrev pub lastDay : ℕ
+lastDay = 20791231
+
 -- the ordinal of a number YYYYMMDD: 0 to 36,524; a number of no day has 36,525
 unfoldable pub ordinalOf : ℕ → ℕ
 ordinalOf k = pick (isDay k) (daysBefore (k / 10000) (k / 100 % 100) (k % 100)) allDays

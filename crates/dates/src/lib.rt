@@ -9,6 +9,9 @@ ghost use Rattle.dates.specs.Answers.{Read, IsDay, Put, Ordinal, OfOrdin
 // The days from 1980 to 2079, and what no day has for an ordinal.
 pub const ALL_DAYS: u32 = 36525;
 
+// 31 December 2079: the years end there.
+pub const LAST_DAY: u64 = 20791231;
+
 pub enum Date {
     Day(u32),
     NoDay,

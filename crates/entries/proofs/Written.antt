@@ -1,6 +1,6 @@
 -- An entry as the code writes it, and what is read of one.
 use mathlib.Core.Path.{_≡_, refl, sym, ap, _∙_}
-use mathlib.Core.Bool.{true, false, not}
+use mathlib.Core.Bool.{Bool, true, false, not}
 use mathlib.Core.List.{List, [], _∷_, _++_, append-assoc, append-nil}
 use Prim.Native.Nat.{ℕ, _+_, _-_, _*_, _^_, _<_, _≤_}
 use native.Mathlib.Nat.{add-sub-cancel-left}
@@ -11,6 +11,7 @@ use lib.Seq.{take-at, drop-at, drop-drop, getD-drop, getD-take}
 use borrow.Author.Tests.{eq-eqb, ne-eqb, le-leb, lt-leb}
 use Rattle.zones.specs.Class.{digit, inClass}
 use Rattle.zones.proofs.Every.{in-range, every-at}
+use Rattle.zones.specs.Choice.{pick}
 use Rattle.zones.specs.Number.{valueOf, digitsOf}
 use Rattle.zones.specs.Pieces.{flat}
 use Rattle.zones.proofs.Decimal.{length-digits, value-digits, digits-all}
@@ -117,8 +118,13 @@ module _ (first n : ℕ) (o c : List ℕ) (h : length o ≡ recordSize) (k : len
       rw (eq-eqb (length (entryText first n o c)) entrySize length-entry, written-used, first-digits, count-digits, value-digits 6 first f, value-digits 4 n m)
 
 -- a blank entry is not used
-pub blank-unused : (x : List ℕ) → ((i : ℕ) → i < entrySize → getD x i 0 ≡ 32) → isUsed x ≡ false
-blank-unused x b = ap not (eq-eqb (getD x 43 0) 32 (b 43 (omega arith)))
+pub blank-unused : (x : List ℕ) → ((i : ℕ) → i < entrySize → getD x i 0 ≡ 32) → fieldsOf x .used ≡ false
+unfolding fieldsOf
+blank-unused x b = by (eqb (length x) entrySize)
+  where
+    by : (t : Bool) → pick t (record { used = isUsed x; first = valueOf (part 38 43 x); records = valueOf (part 44 47 x) }) noEntry .used ≡ false
+    by true = ap not (eq-eqb (getD x 43 0) 32 (b 43 (omega arith)))
+    by false = refl
 
 -- KEPT: an entry is the same of records as the writer writes them; what it takes of them stands before their amounts
 key-kept : (o : List ℕ) → length o ≡ recordSize → keyText (canonRecord o) ≡ keyText o

@@ -16,7 +16,7 @@ pub const MOST_ENTRIES: usize = 128;
 pub const ENTRY: usize = 60;
 
 // The bytes of the table of contents: body lines begin behind it.
-pub const TABLE: usize = MOST_ENTRIES * ENTRY;
+pub const CONTENTS: usize = MOST_ENTRIES * ENTRY;
 
 // The bytes of a row: what an entry says of its statement.
 pub const ROW: usize = 41;
@@ -158,7 +158,7 @@ pub fn body_at(journal: &[u8], e: usize) -> &[u8]
     if !x.used {
         return &journal[..0];
     }
-    let a = TABLE + RECORD * x.first;
+    let a = CONTENTS + RECORD * x.first;
     let z = a + RECORD * x.records;
     if journal.len() < z {
         return &journal[..0];

@@ -1,5 +1,4 @@
 // The fields of one record, by value: the account key, a 04 as a row of a movement table, and what a balance in value counts of a 04.
-ghost use Prim.Native.Nat.{_<_};
 ghost use mathlib.Core.Path.{_≡_};
 ghost use lib.ListN.{length};
 ghost use Rattle.zones.specs.Number.{valueOf};

@@ -7,6 +7,9 @@ pub struct Form {
     pub line_end: u64,
 }
 
+// A file without line ends.
+pub const PLAIN: Form = Form { line_end: 0 };
+
 // The width of a record with its line end, and the number of records; or the number of a refusal.
 pub enum Frame {
     Records { width: usize, count: usize },

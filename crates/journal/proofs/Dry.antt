@@ -46,7 +46,7 @@ use Rattle.journal.specs.Plans.{partsFrom, spansFrom, Inside, Reading, w
 use Rattle.journal.proofs.Runs.{hold-held, store-new}
 use Rattle.journal.proofs.Values.{has-room}
 use Rattle.journal.proofs.Written.{layout-all}
-use Rattle.journal.proofs.Turning.{largestFile, file-small, Turn, turn}
+use Rattle.journal.proofs.Turning.{largestFile, file-small, Turn, turn-at}
 
 -- ---- one part more
 
@@ -290,7 +290,7 @@ module _ {j : List ℕ} {f : Form} {b : List ℕ} (given : Deliverable j f b) wh
     -- one statement more
     module _ {end : ℕ} (more : at < length b) (cursor : end ≡ endAfter f b at) where
       pub turn-there : Turn f b S (d .i) at end
-      turn-there = turn file (d .upto) (d .place) more cursor
+      turn-there = turn-at file (d .upto) (d .place) more cursor
 
       -- what `turn` asks for
       pub judgeable : {x : Free} → x ≡ freeIn j → Judgeable j f b places ends (x .entry) count (n - taken) at end

@@ -23,7 +23,7 @@ use Rattle.journal_layout.specs.Test.{laterOf, judgedBy}
 use Rattle.journal.specs.declared.Refusal.{Refusal}
 use Rattle.journal.specs.declared.Verdict.{Verdict}
 use Rattle.journal.specs.declared.Verdict.the-variants.{Hold, Store, Refuse}
-use Rattle.journal.specs.Delivery.{refusal, isHeld, verdictBy}
+use Rattle.journal.specs.Delivery.{refusal, notNext, isHeld, verdictBy}
 use Rattle.journal.specs.Plans.{partsFrom, heldIn, lastIn, judgedIn, judgedAll}
 
 module _ (last : Judgement) (f : Form) (b places ends : List ℕ) (count : ℕ) (s : List ℕ) where
@@ -78,7 +78,7 @@ module _ (j : Judgement) (o : List ℕ) (entries left size at : ℕ) where
     value : u ≡ followsBy j (lookOf o .day) (lookOf o .amount)
     value = let x = look-small o l in q ∙ rw (back (k .amount) (omega arith), l)
 
-    pub follows-not : {r : Refusal} → not u ≡ true → r ≡ refusal 22 at → Refuse r ≡ answer
+    pub follows-not : {r : Refusal} → not u ≡ true → r ≡ notNext j at → Refuse r ≡ answer
     follows-not n e = ap Refuse e ∙ sym (rw (← p, h, ← value, not-true u n))
 
     module _ (n : not u ≡ false) where

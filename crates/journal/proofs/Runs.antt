@@ -22,7 +22,7 @@ use Rattle.journal_layout.proofs.Adding.{lines-append, all-append}
 use Rattle.journal_layout.proofs.Exact.{one-lines, journal-length}
 use Rattle.journal.specs.declared.Verdict.{Verdict}
 use Rattle.journal.specs.declared.Verdict.the-variants.{Hold, Store, Refuse}
-use Rattle.journal.specs.Delivery.{refusal, verdictBy, verdictOf, delivered, refused, proceed, run}
+use Rattle.journal.specs.Delivery.{refusal, notNext, verdictBy, verdictOf, delivered, refused, proceed, run}
 use Rattle.journal.specs.Arrivals.{arrivals}
 use Rattle.journal.proofs.Values.{not-held, has-room}
 
@@ -44,7 +44,7 @@ hold-held n hs s at h = by (heldAmong s hs) refl h
         absurd (other (followsBy (lastAmong (s .key) First hs) (s .old-date) (s .old-balance)) (ltb (length hs) mostEntries) (leb (sizeOf s) (n - linesOf hs))
         (rw (not-held (s .key) First hs refl) at g))
       where
-        other : (b c d : Bool) → pick b (pick c (pick d Store (Refuse (refusal 24 at))) (Refuse (refusal 23 at))) (Refuse (refusal 22 at)) ≡ Hold → ⊥
+        other : (b c d : Bool) → pick b (pick c (pick d Store (Refuse (refusal 24 at))) (Refuse (refusal 23 at))) (Refuse (notNext (lastAmong (s .key) First hs) at)) ≡ Hold → ⊥
         other false c d e = let z : _≡_ {A = ℕ} 0 1 = cc in omega arith
         other true false d e = let z : _≡_ {A = ℕ} 0 1 = cc in omega arith
         other true true false e = let z : _≡_ {A = ℕ} 0 1 = cc in omega arith
@@ -60,7 +60,7 @@ store-follows n hs s at e = by (judgementOf s hs) e
     by First g = refl
     by (After d b) g = other (followsBy (After d b) (s .old-date) (s .old-balance)) g
       where
-        other : (t : Bool) → pick t (pick (ltb (length hs) mostEntries) (pick (leb (sizeOf s) (n - linesOf hs)) Store (Refuse (refusal 24 at))) (Refuse (refusal 23 at))) (Refuse (refusal 22 at)) ≡ Store → t ≡ true
+        other : (t : Bool) → pick t (pick (ltb (length hs) mostEntries) (pick (leb (sizeOf s) (n - linesOf hs)) Store (Refuse (refusal 24 at))) (Refuse (refusal 23 at))) (Refuse (notNext (After d b) at)) ≡ Store → t ≡ true
         other true g = refl
         other false g = absurd (let z : _≡_ {A = ℕ} 0 1 = cc in omega arith)
 

@@ -46,8 +46,8 @@ pub record Turn (f : Form) (b : List ℕ) (ss : List Statement) (i at end : ℕ)
   pub behind : at / widthOf recordSize f ≡ recordsBefore i ss
 
 module _ {f : Form} {b : List ℕ} {ss : List Statement} (r : Reads (codingOf f) f b ss) where
-  pub turn : {i at end : ℕ} → i ≤ length ss → at ≡ recordsBefore i ss * widthOf recordSize f → at < length b → end ≡ endAfter f b at → Turn f b ss i at end
-  turn {i} {at} {end} u p l e =
+  pub turn-at : {i at end : ℕ} → i ≤ length ss → at ≡ recordsBefore i ss * widthOf recordSize f → at < length b → end ≡ endAfter f b at → Turn f b ss i at end
+  turn-at {i} {at} {end} u p l e =
       let w = widthOf recordSize f in
       let m = recordsBefore i ss in
       let n = sizeOf (getD ss i noStatement) in

@@ -32,7 +32,7 @@ use Rattle.journal_layout.proofs.Holding.{Holding, later-value, judged-value}
 use Rattle.journal_layout.proofs.Exact.{journal-held, sound-journal}
 use Rattle.journal.specs.declared.Verdict.{Verdict}
 use Rattle.journal.specs.declared.Verdict.the-variants.{Hold, Store, Refuse}
-use Rattle.journal.specs.Delivery.{refusal, isHeld, verdictBy, verdictOf, linesIn}
+use Rattle.journal.specs.Delivery.{refusal, notNext, isHeld, verdictBy, verdictOf, linesIn}
 use Rattle.journal.specs.Plans.{partsFrom, heldIn, lastIn, judgedIn, judgedAll, Reading, Turned}
 
 -- ---- two rows of statements
@@ -136,20 +136,20 @@ module _ (j : List ℕ) (f : Form) (b places ends : List ℕ) (held count left a
 
 -- ---- what a verdict says
 
-abbrev made : (held follows entry lines : Bool) → (at : ℕ) → Verdict
-made a b c d at = pick a Hold (pick b (pick c (pick d Store (Refuse (refusal 24 at))) (Refuse (refusal 23 at))) (Refuse (refusal 22 at)))
+abbrev made : Judgement → (held follows entry lines : Bool) → (at : ℕ) → Verdict
+made j a b c d at = pick a Hold (pick b (pick c (pick d Store (Refuse (refusal 24 at))) (Refuse (refusal 23 at))) (Refuse (notNext j at)))
 
-made-room : (a b c d : Bool) (at : ℕ) → made a b c d at ≡ Store → (c ≡ true) × (d ≡ true)
-made-room true b c d at e = absurd (let z : _≡_ {A = ℕ} 0 1 = cc in omega arith)
-made-room false false c d at e = absurd (let z : _≡_ {A = ℕ} 0 1 = cc in omega arith)
-made-room false true false d at e = absurd (let z : _≡_ {A = ℕ} 0 1 = cc in omega arith)
-made-room false true true false at e = absurd (let z : _≡_ {A = ℕ} 0 1 = cc in omega arith)
-made-room false true true true at e = (refl, refl)
+made-room : (j : Judgement) (a b c d : Bool) (at : ℕ) → made j a b c d at ≡ Store → (c ≡ true) × (d ≡ true)
+made-room j true b c d at e = absurd (let z : _≡_ {A = ℕ} 0 1 = cc in omega arith)
+made-room j false false c d at e = absurd (let z : _≡_ {A = ℕ} 0 1 = cc in omega arith)
+made-room j false true false d at e = absurd (let z : _≡_ {A = ℕ} 0 1 = cc in omega arith)
+made-room j false true true false at e = absurd (let z : _≡_ {A = ℕ} 0 1 = cc in omega arith)
+made-room j false true true true at e = (refl, refl)
 
 -- where one is stored there is an entry, and there are lines
 pub has-room : (n : ℕ) (hs : List Statement) (s : Statement) (at : ℕ) → verdictOf n hs s at ≡ Store → (length hs < mostEntries) × (sizeOf s ≤ n - linesOf hs)
 unfolding verdictOf
 has-room n hs s at e =
     let j = judgementOf s hs in
-    let r = made-room (isHeld j) (followsBy j (s .old-date) (s .old-balance)) (ltb (length hs) mostEntries) (leb (sizeOf s) (n - linesOf hs)) at e in
+    let r = made-room j (isHeld j) (followsBy j (s .old-date) (s .old-balance)) (ltb (length hs) mostEntries) (leb (sizeOf s) (n - linesOf hs)) at e in
     (ltb-true (length hs) mostEntries (r .0), leb-true (sizeOf s) (n - linesOf hs) (r .1))

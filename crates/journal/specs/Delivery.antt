@@ -31,13 +31,17 @@ isHeld Held = true
 isHeld First = false
 isHeld (After d b) = false
 
+-- 22: a statement that does not follow, by what the others say of it
+abbrev pub notNext : Judgement → (at : ℕ) → Refusal
+notNext j at = refusal 22 at
+
 -- What becomes of a statement. A held one is held, also if the table is full. Otherwise it must follow, else 22. Then no entry left gives 23, too few lines left 24. A refusal reports the 01's record.
 abbrev pub verdictBy : Judgement → (date : ℕ) → (balance : ℤ) → (entries left size at : ℕ) → Verdict
 verdictBy j d b entries left size at =
     pick (isHeld j) Hold
     (pick (followsBy j d b)
     (pick (ltb entries mostEntries) (pick (leb size left) Store (Refuse (refusal 24 at))) (Refuse (refusal 23 at)))
-    (Refuse (refusal 22 at)))
+    (Refuse (notNext j at)))
 
 -- a statement, whose 01 is record `at` of its file, beside those held in a journal of n lines
 unfoldable pub verdictOf : (n : ℕ) → List Statement → Statement → (at : ℕ) → Verdict

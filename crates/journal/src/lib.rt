@@ -18,9 +18,9 @@ ghost use Rattle.journal.specs.declared.Found.the-variants.{Refused};
 ghost use Rattle.journal.specs.Newest.{keySize, keyFrom, newestAmong, newestOf, isAccount, lastHeldFrom, lastPart};
 ghost use Rattle.journal.specs.Plans.{partsFrom, Inside, judgedIn, judgedAll, Reading, written, writtenAll, Deliverable, donePlan, refusedPlan, Storable, Planned, Judgeable, Turned, Searchable, Finds};
 ghost use Rattle.journal.specs.Answers.{Delivers, NewestPlace, NewestPart, Holds, BodyOf, OfAccount};
+use entries::CONTENTS;
 use entries::ENTRY;
 use entries::MOST_ENTRIES;
-use entries::TABLE;
 use framing::Form;
 use journal_layout::Free;
 use journal_layout::Judgement;
@@ -251,7 +251,7 @@ fn dry_run(journal: &[u8], form: Form, file: &[u8]) -> Plan
     ensures { λ r. ⌜ Planned (now (journal .entry)) form (now (file .entry)) r ⌝ }
 {
     let free = journal_layout::first_free(journal);
-    let lines = (journal.len() - TABLE) / RECORD;
+    let lines = (journal.len() - CONTENTS) / RECORD;
     let width = RECORD + form.line_end as usize;
     let mut places = [0u32; MOST_ENTRIES];
     let mut ends = [0u32; MOST_ENTRIES];
@@ -299,7 +299,7 @@ fn store(journal: &mut [u8], e: usize, line: usize, form: Form, part: &[u8]) -> 
     let a = ENTRY * e;
     let z = a + ENTRY;
     entries::put_entry(&mut journal[a..z], line, size, opening, closing);
-    let b = TABLE + RECORD * line;
+    let b = CONTENTS + RECORD * line;
     bodies::put_body(&mut journal[b..], form, part);
     size
 }
@@ -465,7 +465,7 @@ fn newest_planned(
     }
     let x = entries::entry_at(journal, e - 1);
     Found::InJournal {
-        first: TABLE + RECORD * x.first,
+        first: CONTENTS + RECORD * x.first,
         len: RECORD * x.records,
     }
 }

@@ -1,31 +1,29 @@
 -- THE SOUND TEST: it is passed exactly by the layouts of lists that a journal can hold, and the list is what is read back.
 use mathlib.Core.Path.{_≡_, refl, sym, ap, ap₂, _∙_}
-use mathlib.Core.Bool.{Bool, true, false, not}
+use mathlib.Core.Bool.{Bool, true, false}
 use mathlib.Core.Logic.{_↔_}
 use mathlib.Core.List.{List, [], _∷_, _++_, append-assoc, append-nil}
 use Prim.Native.Nat.{ℕ, zero, suc, _+_, _-_, _*_, _/_, _%_, _<_, _≤_}
 use native.Mathlib.Nat.{div-add-mod'}
 use native.Mathlib.Omega.{arith}
-use lib.Dec.{eqb, leb}
+use lib.Dec.{leb}
 use lib.ListN.{length, take, drop, getD, replicate, length-append, length-drop, length-replicate, take-append-drop}
 use lib.Seq.{take-add, take-at, drop-at, drop-drop, take-take, take-nil, length-take-le, getD-take, getD-drop}
 use borrow.Author.Tests.{eq-eqb, le-leb, lt-leb, leb-true}
 use Rattle.framing.specs.Files.{plain}
 use Rattle.zones.specs.Choice.{pick}
 use Rattle.zones.specs.Class.{blank, inClass, all}
-use Rattle.zones.specs.Number.{valueOf}
 use Rattle.zones.specs.Pieces.{flat}
 use Rattle.zones.proofs.Bools.{and-left, and-right, both}
 use Rattle.zones.proofs.Copies.{equal-same}
 use Rattle.zones.proofs.Every.{every-at, in-range, blanks-are, are-blanks}
-use Rattle.layouts.specs.Zone.{part}
 use Rattle.grammar.specs.Statements.{Statement}
 use Rattle.grammar.specs.Files.{pieces, Reads, Writable}
 use Rattle.grammar.specs.Parts.{sizeOf, recordsBefore, noStatement}
 use Rattle.records.specs.July.{recordSize, july, noDebitZero, codingOf}
 use Rattle.bodies.specs.Bodies.{bodyOf, single, statementOf}
 use Rattle.bodies.proofs.Single.{body-reads, body-own, body-single, reads-statement}
-use Rattle.entries.specs.Entries.{mostEntries, entrySize, tableSize, lineAt, noEntry, isUsed, fieldsOf, entryBytes, entryIn, linesFrom, bodyAt}
+use Rattle.entries.specs.Entries.{mostEntries, entrySize, tableSize, lineAt, entryBytes, entryIn, linesFrom, bodyAt}
 use Rattle.entries.proofs.Written.{blank-unused}
 use Rattle.journal_layout.specs.Chains.{ofAccount}
 use Rattle.journal_layout.specs.Layout.{mostLines, isLength, linesOf, entryOf, entriesOf, bodiesOf, journalOf, Journal}
@@ -223,8 +221,8 @@ module _ {j : List ℕ} {ss : List Statement} (g : Journal j ss) where
 
 -- behind the last every entry is unused
 pub unused-there : (j : List ℕ) (e k i : ℕ) → restBlank j e k ≡ true → e ≤ i → i < mostEntries → tableSize ≤ length j → entryIn j i .used ≡ false
-unfolding entryIn fieldsOf restBlank
-unused-there j e k i r g h l = rw (lt-leb mostEntries i h) (by (eqb (length (entryBytes j i)) entrySize))
+unfolding entryIn restBlank
+unused-there j e k i r g h l = rw (lt-leb mostEntries i h) (blank-unused (entryBytes j i) byte)
   where
     rest : List ℕ
     rest = take (tableSize - entrySize * e) (drop (entrySize * e) j)
@@ -243,18 +241,6 @@ unused-there j e k i r g h l = rw (lt-leb mostEntries i h) (by (eqb (length (ent
         ∙ sym (getD-drop (entrySize * e) j d 0)
         ∙ sym (getD-take (tableSize - entrySize * e) (drop (entrySize * e) j) d 0 (omega arith))
         ∙ z
-
-    by : (t : Bool)
-        → pick t
-        (record {
-          used = isUsed (entryBytes j i);
-          first = valueOf (part 38 43 (entryBytes j i));
-          records = valueOf (part 44 47 (entryBytes j i));
-        })
-        noEntry .used
-        ≡ false
-    by true = blank-unused (entryBytes j i) byte
-    by false = refl
 
 -- the statement behind those of H
 member : (H : List Statement) (t : Statement) (B : List Statement) → getD (H ++ (t ∷ B)) (length H) noStatement ≡ t

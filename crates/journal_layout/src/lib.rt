@@ -8,18 +8,19 @@ ghost use Rattle.entries.specs.Entries.{mostEntries, entrySize, tableSize, line
 ghost use Rattle.journal_layout.specs.Layout.{mostLines, isLength};
 ghost use Rattle.journal_layout.specs.Test.{fitsIn, restBlank, walkIn, unusedFrom};
 ghost use Rattle.journal_layout.specs.Answers.{Later, FollowsOn, Judged, Sound, FirstFree, UsedOf, Opens, EntryPlace, ListedPlace, EntryBody};
+use entries::CONTENTS;
 use entries::ENTRY;
 use entries::MOST_ENTRIES;
-use entries::TABLE;
 use framing::Form;
+use framing::PLAIN;
 use readers::Place;
 use records::RECORD;
 
 // The most body lines of a journal.
-pub const MOST_LINES: usize = 100000;
+const MOST_LINES: usize = 100000;
 
 // The bytes of the longest journal.
-const MOST_BYTES: usize = TABLE + RECORD * MOST_LINES;
+const MOST_BYTES: usize = CONTENTS + RECORD * MOST_LINES;
 
 // A statement beside the held ones: held itself, the first of its account, or after another, whose new date and new balance these are.
 pub enum Judgement {
@@ -81,10 +82,10 @@ pub fn judged(journal: &[u8], count: usize, form: Form, s: &[u8]) -> Judgement
     let mut e: usize = 0;
     while e < count {
         let h = entries::body_at(journal, e);
-        if bodies::same_records(Form { line_end: 0 }, h, form, s) {
+        if bodies::same_records(PLAIN, h, form, s) {
             return Judgement::Held;
         }
-        last = later(last, Form { line_end: 0 }, h, s);
+        last = later(last, PLAIN, h, s);
         e += 1;
     }
     last
@@ -104,25 +105,21 @@ fn fits(journal: &[u8], e: usize, k: usize, n: usize) -> bool
     requires { ⌜ (e < mostEntries) × (lineAt k + recordSize * n ≤ length (now journal)) ⌝ }
     ensures { λ t. ⌜ t ≡ fitsIn (now (journal .entry)) e k n ⌝ }
 {
-    let a = TABLE + RECORD * k;
+    let a = CONTENTS + RECORD * k;
     let z = a + RECORD * n;
     let s = &journal[a..z];
     if !bodies::is_single(s) {
         return false;
     }
     let opening = contents::record_at(s, 0);
-    let closing = bodies::closing_of(Form { line_end: 0 }, s);
+    let closing = bodies::closing_of(PLAIN, s);
     let b = ENTRY * e;
     let y = b + ENTRY;
     if !is_entry(&journal[b..y], k, n, opening, closing) {
         return false;
     }
     let old = records::look_at(opening);
-    follows(
-        judged(journal, e, Form { line_end: 0 }, s),
-        old.day,
-        old.amount,
-    )
+    follows(judged(journal, e, PLAIN, s), old.day, old.amount)
 }
 
 // Whether all is blank from entry e on, and from line k on.
@@ -131,8 +128,8 @@ fn rest_blank(journal: &[u8], e: usize, k: usize) -> bool
     ensures { λ t. ⌜ t ≡ restBlank (now (journal .entry)) e k ⌝ }
 {
     let a = ENTRY * e;
-    let b = TABLE + RECORD * k;
-    zones::blanks(&journal[a..TABLE]) & zones::blanks(&journal[b..])
+    let b = CONTENTS + RECORD * k;
+    zones::blanks(&journal[a..CONTENTS]) & zones::blanks(&journal[b..])
 }
 
 // The entries one after another. The body of entry e begins at line k.
@@ -148,7 +145,7 @@ fn walk(journal: &[u8]) -> bool
             return rest_blank(journal, e, k);
         }
         let n = x.records;
-        if journal.len() < TABLE + RECORD * k + RECORD * n {
+        if journal.len() < CONTENTS + RECORD * k + RECORD * n {
             return false;
         }
         if !fits(journal, e, k, n) {
@@ -163,7 +160,7 @@ fn walk(journal: &[u8]) -> bool
 fn is_length(n: usize) -> bool
     ensures { λ t. ⌜ t ≡ isLength n ⌝ }
 {
-    (TABLE <= n) & (n <= MOST_BYTES) & (n % RECORD == 0)
+    (CONTENTS <= n) & (n <= MOST_BYTES) & (n % RECORD == 0)
 }
 
 // Whether a journal is sound. Linear in its bytes, and in the comparisons of each body with those before it.
@@ -219,7 +216,7 @@ pub fn used(journal: &[u8]) -> Usage
     Usage::Counted {
         entries: free.entry as u64,
         used: free.line as u64,
-        lines: ((journal.len() - TABLE) / RECORD) as u64,
+        lines: ((journal.len() - CONTENTS) / RECORD) as u64,
     }
 }
 
@@ -271,7 +268,7 @@ pub fn entry_place(journal: &[u8], e: u64) -> Place
         };
     }
     Place::At {
-        first: TABLE + RECORD * x.first,
+        first: CONTENTS + RECORD * x.first,
         len: RECORD * x.records,
     }
 }
@@ -299,7 +296,7 @@ pub fn listed_place(journal: &[u8], e: u64) -> Place
             record: 0,
         };
     }
-    let first = TABLE + RECORD * x.first;
+    let first = CONTENTS + RECORD * x.first;
     let len = RECORD * x.records;
     if journal.len() < first + len {
         return Place::Refused {

@@ -62,5 +62,5 @@ module _ {f : Form} {b : List ℕ} {ss : List Statement} (r : Reads (codingOf f)
   records-from n = sym (map-drop (recOf (codingOf f)) n (pieces (codingOf f) f b)) ∙ ap (drop n) (reads-records (codingOf f) (lawful f) r)
 
   -- and are fine
-  pub fine-from : (n : ℕ) → All (λ p. Fine july (take recordSize p)) (drop n (pieces (codingOf f) f b))
+  pub fine-from : (n : ℕ) → All (λ p. Fine (codingOf f) (take recordSize p)) (drop n (pieces (codingOf f) f b))
   fine-from n = all-drop _ n (pieces (codingOf f) f b) (reads-fine (codingOf f) (lawful f) r)

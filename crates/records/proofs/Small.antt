@@ -19,7 +19,7 @@ use Rattle.grammar.specs.Machine.{judgeOf, scan}
 use Rattle.grammar.specs.Rules.{outOfPlace, differs, misdated, unsummed, secondMmo, tooLong}
 use Rattle.grammar.specs.Statements.{Statement, back}
 use Rattle.grammar.specs.Files.{relined, checkOf, statementsOf}
-use Rattle.records.specs.July.{unknownCode, layoutFor, misfit, undated, decodeRecord, july}
+use Rattle.records.specs.July.{unknownCode, layoutFor, misfit, undated, decodeRecord, codingOf}
 use Rattle.records.specs.Worked.{nil-old, nil-new, nil, bare, lf, crlf, counts}
 
 -- the form with line end n
@@ -62,28 +62,28 @@ abbrev pub march : Statement
 march = period 20250228 20250331
 
 -- one statement, two, none
-pub nil-holds : statementsOf july (form 1) nil ≡ february ∷ []
+pub nil-holds : statementsOf (codingOf (form 1)) (form 1) nil ≡ february ∷ []
 unfolding statementsOf back decodeRecord chunks widthOf sameBytes dateOf dayOf yearOf exists daysIn valueFrom amountOf signOf signIndex isDebit magnitude every
 nil-holds = refl
 
-pub two-hold : statementsOf july (form 1) two ≡ february ∷ march ∷ []
+pub two-hold : statementsOf (codingOf (form 1)) (form 1) two ≡ february ∷ march ∷ []
 unfolding statementsOf back decodeRecord chunks widthOf sameBytes dateOf dayOf yearOf exists daysIn valueFrom amountOf signOf signIndex isDebit magnitude every
 two-hold = refl
 
-pub lone-holds : statementsOf july (form 0) lone ≡ []
+pub lone-holds : statementsOf (codingOf (form 0)) (form 0) lone ≡ []
 unfolding statementsOf back decodeRecord chunks widthOf sameBytes
 lone-holds = refl
 
 -- the second is accepted too, the last is refused
-pub two-accepted : checkOf july (form 1) two ≡ counts 2 0 0
+pub two-accepted : checkOf (codingOf (form 1)) (form 1) two ≡ counts 2 0 0
 unfolding every sameBytes valueFrom signIndex signOf isDebit magnitude amountOf yearOf daysIn exists dayOf dateOf endOf widthOf chunks sameKey judgeOf scan outOfPlace differs misdated unsummed secondMmo tooLong checkOf unknownCode layoutFor misfit undated decodeRecord
 two-accepted = refl
 
-pub lone-refused : checkOf july (form 0) lone ≡ refused 7 1
+pub lone-refused : checkOf (codingOf (form 0)) (form 0) lone ≡ refused 7 1
 unfolding every sameBytes endOf widthOf chunks judgeOf scan outOfPlace checkOf unknownCode decodeRecord
 lone-refused = refl
 
 -- the records of the first, each followed by CR LF
-pub nil-relined : relined july (form 1) (form 2) nil ≡ nil-crlf
+pub nil-relined : relined (codingOf (form 1)) (form 1) (form 2) nil ≡ nil-crlf
 unfolding relined fileOf flat endOf chunks widthOf
 nil-relined = refl

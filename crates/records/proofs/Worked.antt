@@ -28,11 +28,11 @@ unfolding every sameBytes valueFrom digitsInto signIndex signOf isDebit magnitud
 worked = refl
 
 -- the first of them, an empty account, is accepted
-pub nil-accepted : checkOf july (record { «line_end» = 1 }) nil ≡ counts 1 0 0
+pub nil-accepted : checkOf (codingOf (record { «line_end» = 1 })) (record { «line_end» = 1 }) nil ≡ counts 1 0 0
 nil-accepted = ap (λ l. getD l 0 (refused 0 0)) worked
 
 -- and has a debit zero
-nil-debit : noDebitZero (pieces july (record { «line_end» = 1 }) nil) ≡ false
+nil-debit : noDebitZero (pieces (codingOf (record { «line_end» = 1 })) (record { «line_end» = 1 }) nil) ≡ false
 unfolding noDebitZero sameBytes chunks widthOf
 nil-debit = refl
 

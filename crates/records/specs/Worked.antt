@@ -3,9 +3,10 @@ use Prim.Native.Nat.{ℕ}
 use Prim.Native.String.{String}
 use mathlib.Core.List.{List, [], _∷_, _++_}
 use Rattle.zones.specs.Text.{bytes}
+use Rattle.framing.specs.declared.Form.{Form}
 use Rattle.grammar.specs.Answer.{Answer, accepted, refused}
 use Rattle.grammar.specs.Files.{checkOf}
-use Rattle.records.specs.July.{july}
+use Rattle.records.specs.July.{codingOf}
 
 -- the paper's worked statement
 abbrev pub old : String
@@ -122,9 +123,12 @@ written =
     ∷ (note, note)
     ∷ []
 
+abbrev formOf : Case → Form
+formOf c = record { «line_end» = c .line-end }
+
 abbrev pub answers : List Case → List Answer
 answers [] = []
-answers (c ∷ cs) = checkOf july (record { «line_end» = c .line-end }) (c .bytes) ∷ answers cs
+answers (c ∷ cs) = checkOf (codingOf (formOf c)) (formOf c) (c .bytes) ∷ answers cs
 
 abbrev pub expected : List Case → List Answer
 expected [] = []

@@ -6,7 +6,7 @@ use Rattle.framing.specs.declared.Form.{Form}
 use Rattle.grammar.specs.Answer.{Answer, accepted, refused}
 use Rattle.grammar.specs.Files.{canonical, checkOf, Ruled}
 use Rattle.grammar.specs.Demand.{Demand2}
-use Rattle.records.specs.July.{july, codingOf}
+use Rattle.records.specs.July.{codingOf}
 use Rattle.records.proofs.Theorems.{demand2, ruled}
 use Rattle.statements.specs.Answers.{checkedOf, answerOf, Check}
 use Rattle.statements.specs.declared.Checked.{Checked}

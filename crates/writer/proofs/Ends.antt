@@ -30,16 +30,16 @@ length-opening k d a x = by (eqb (length x) recordSize) (balanceHolds k d a) ref
     by true false p q = refl
     by false u p q = refl
 
-pub bounds : (bytes n : ℕ) → (leb 240 bytes && leb bytes n) ≡ true → (240 ≤ bytes) × (bytes ≤ n)
-bounds bytes n e = (leb-true 240 bytes (and-left (leb 240 bytes) _ e), leb-true bytes n (and-right (leb 240 bytes) _ e))
+pub bounds : (bytes n : ℕ) → (leb (2 * recordSize) bytes && leb bytes n) ≡ true → ((2 * recordSize) ≤ bytes) × (bytes ≤ n)
+bounds bytes n e = (leb-true (2 * recordSize) bytes (and-left (leb (2 * recordSize) bytes) _ e), leb-true bytes n (and-right (leb (2 * recordSize) bytes) _ e))
 
 module _ (bytes : ℕ) (h : Head) (out : List ℕ) where
-  pub no-ends : (leb 240 bytes && leb bytes (length out)) ≡ false → out ≡ endsPut bytes h out
+  pub no-ends : (leb (2 * recordSize) bytes && leb bytes (length out)) ≡ false → out ≡ endsPut bytes h out
   unfolding endsPut
   no-ends e = sym (rw e)
 
-  module _ (e : (leb 240 bytes && leb bytes (length out)) ≡ true) where
-    some : 240 ≤ bytes
+  module _ (e : (leb (2 * recordSize) bytes && leb bytes (length out)) ≡ true) where
+    some : (2 * recordSize) ≤ bytes
     some = bounds bytes (length out) e .0
 
     inside : bytes ≤ length out

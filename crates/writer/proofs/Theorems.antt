@@ -19,7 +19,7 @@ use Rattle.grammar.proofs.Seam.{piecesFor, bodies-pieces}
 use Rattle.grammar.proofs.Canonical.{pieces-canonical}
 use Rattle.grammar.proofs.Exact.{gives-reads, reads-pieces}
 use Rattle.grammar.proofs.Trips.{one-records}
-use Rattle.records.specs.July.{recordSize, Holds, july, july2004, encodeRecord, noDebitZero, codingOf}
+use Rattle.records.specs.July.{recordSize, Holds, july, encodeRecord, noDebitZero, codingOf, editionOf}
 use Rattle.records.proofs.Lawful.{lawful}
 use Rattle.records.proofs.Theorems as records
 use Rattle.fields.specs.declared.Movement.{Movement}
@@ -52,9 +52,9 @@ module _ (h : Head) (rows : List Movement) (cs : List ℕ) where
       record {
         line = refl;
         valid = (w .valid, tt);
-        ok = rw (one-records july2004 s) (w .ok);
-        layout = rw (one-records july2004 s) (plain-file (recordsOf july2004 s));
-        few = rw (one-records july2004 s) (w .few);
+        ok = rw (one-records (editionOf plain) s) (w .ok);
+        layout = rw (one-records (editionOf plain) s) (plain-file (recordsOf (editionOf plain) s));
+        few = rw (one-records (editionOf plain) s) (w .few);
       }
 
   -- so it has no debit zero
@@ -93,9 +93,9 @@ module _ {f : Form} {b : List ℕ} {ss : List Statement} (r : Reads (codingOf f)
   writable : Writable july t
   writable = records.writable t .0 (f, (partOf (codingOf f) f b (j + 1), alone))
 
-  held : All Holds (recordsOfMovements july2004 (t .key) (t .movements))
+  held : All Holds (recordsOfMovements (editionOf f) (t .key) (t .movements))
   unfolding recordsOf
-  held = all-left Holds (recordsOfMovements july2004 (t .key) (t .movements)) _ (writable .ok .1)
+  held = all-left Holds (recordsOfMovements (editionOf f) (t .key) (t .movements)) _ (writable .ok .1)
 
   -- the values read of a statement say that statement
   statement-back : statementFrom (headFrom t) (rowsOf (t .movements)) cs ≡ t
@@ -108,11 +108,11 @@ module _ {f : Form} {b : List ℕ} {ss : List Statement} (r : Reads (codingOf f)
   pub read-written : writtenOf (headFrom t) (rowsOf (t .movements)) cs ≡ recordsIn f (canonical (codingOf f) f (partOf (codingOf f) f b (j + 1)))
   unfolding writtenOf recordsIn
   read-written =
-      let rs = allRecords july2004 (t ∷ []) in
+      let rs = allRecords (editionOf f) (t ∷ []) in
       let p : pieces (codingOf f) f (canonical (codingOf f) f (partOf (codingOf f) f b (j + 1))) ≡ piecesFor (codingOf f) f rs =
       pieces-canonical (codingOf f) (lawful f) f (partOf (codingOf f) f b (j + 1)) ∙ reads-pieces (codingOf f) (lawful f) alone in
-      ap (λ s. text (recordsOf july2004 s)) statement-back
-      ∙ sym (ap (λ ps. flat (map (take recordSize) ps)) p ∙ ap flat (bodies-pieces (codingOf f) f (lawful f) rs (alone .ok) ∙ ap (map encodeRecord) (one-records july2004 t)))
+      ap (λ s. text (recordsOf (editionOf f) s)) statement-back
+      ∙ sym (ap (λ ps. flat (map (take recordSize) ps)) p ∙ ap flat (bodies-pieces (codingOf f) f (lawful f) rs (alone .ok) ∙ ap (map encodeRecord) (one-records (editionOf f) t)))
 
   -- without a debit zero they are the same records
   pub own-written : noDebitZero (pieces (codingOf f) f (partOf (codingOf f) f b (j + 1))) ≡ true → writtenOf (headFrom t) (rowsOf (t .movements)) cs ≡ recordsIn f (partOf (codingOf f) f b (j + 1))

@@ -18,6 +18,9 @@ use records::TEXT;
 // The bytes of the 01 and the 07, which every statement has.
 const ENDS: usize = 2 * RECORD;
 
+// A running balance as far as this is reckoned with: the next one fits 64 bits.
+const MOST_BALANCE: u64 = 1000000000000000000;
+
 // The number of bytes written; or, with a refusal's number, 0.
 #[repr(C)]
 pub struct WriteAnswer {
@@ -95,7 +98,7 @@ fn reckoned(s: Tally, m: Movement, len: usize) -> bool
     ensures { λ r. ⌜ r ≡ reckonedOf s m len ⌝ }
 {
     ((s.records <= MOST_IN_STATEMENT) & (m.complements <= MOST_IN_STATEMENT))
-        & ((amounts::absolute(s.balance) <= 1000000000000000000) & (s.from <= len))
+        & ((amounts::absolute(s.balance) <= MOST_BALANCE) & (s.from <= len))
 }
 
 // A row more.
