@@ -17,7 +17,7 @@ struct entry {
     uint32_t records;
 };
 
-/* Where the zones of a row begin, and their widths: the account key, which is the first four, and the dates. */
+/* Where the zones of a row begin, and their widths: the account key, which is the first five, and the dates. */
 enum {
     ROW_BANK = 0,
     ROW_BRANCH = 5,

@@ -11,7 +11,7 @@ use mir.Val.{SFits, toZ, ofZ}
 use mir.Facts.{toZ-pos, toZ-ofZ}
 use borrow.Author.Tests.{le-ltb, ltb-true}
 use Rattle.zones.proofs.Bools.{and-one}
-use Rattle.amounts.specs.Amounts.{signedOf, isNegative, hasAmount}
+use Rattle.amounts.specs.Amounts.{signedOf, mostAmount, isNegative, hasAmount}
 
 pub natAbs-signed : (d : Bool) (m : ℕ) → natAbs (signedOf d m) ≡ m
 natAbs-signed true zero = refl
@@ -76,7 +76,7 @@ keep (pos n) h = tt
 keep (negsuc n) h = false≢true (sym h)
 
 -- the code's test that a value has an amount
-pub amount-test : (v : ℤ) → (leZ (negsuc 99999999999998) v && leZ v (pos 99999999999999)) ≡ hasAmount v
+pub amount-test : (v : ℤ) → (leZ (negsuc (mostAmount - 1)) v && leZ v (pos mostAmount)) ≡ hasAmount v
 unfolding hasAmount
 amount-test (pos n) = refl
-amount-test (negsuc n) = and-one (leb n 99999999999998) ∙ sym (leb·suc-suc n 99999999999998)
+amount-test (negsuc n) = and-one (leb n (mostAmount - 1)) ∙ sym (leb·suc-suc n (mostAmount - 1))

@@ -21,7 +21,7 @@ use Rattle.grammar.proofs.Parts.{length-one}
 use Rattle.grammar.proofs.Seam.{piecesFor, wide-pieces}
 use Rattle.grammar.proofs.Exact.{gives-reads}
 use Rattle.grammar.proofs.Trips.{one-records}
-use Rattle.records.specs.July.{recordSize, mostInStatement, july, july2004, encodeRecord, noDebitZero, codingOf}
+use Rattle.records.specs.July.{recordSize, mostInStatement, july, encodeRecord, noDebitZero, codingOf, editionOf}
 use Rattle.records.proofs.Lawful.{lawful}
 use Rattle.records.proofs.Theorems.{unique, counts, reads, own-file, writable}
 use Rattle.statements.specs.declared.Checked.the-variants as C
@@ -71,7 +71,7 @@ unfolding statementOf
 reads-statement {b} r = let q = unique (reads plain b (counts r)) r in rw q
 
 -- a statement that some file reads as can be written
-pub reads-writable : {f : Form} {b : List ℕ} {s : Statement} → Reads (codingOf f) f b (s ∷ []) → Writable july s
+pub reads-writable : {f : Form} {b : List ℕ} {s : Statement} → Reads (codingOf f) f b (s ∷ []) → Writable (codingOf f) s
 reads-writable {f} {b} {s} r = writable s .0 (f, (b, r))
 
 -- the body of a statement is the file without line ends that it gives
@@ -82,7 +82,7 @@ unended (r ∷ rs) = ap₂ _∷_ (sym (append-nil (encodeRecord r))) (unended rs
 
 pub body-layout : (s : Statement) → bodyOf s ≡ layoutOf (codingOf plain) plain (s ∷ [])
 unfolding bodyOf layoutOf fileOf
-body-layout s = ap flat (unended (recordsOf july2004 s) ∙ ap (piecesFor (codingOf plain) plain) (sym (one-records july2004 s)))
+body-layout s = ap flat (unended (recordsOf (editionOf plain) s) ∙ ap (piecesFor (codingOf plain) plain) (sym (one-records (editionOf plain) s)))
 
 -- a body that stands alone is that of its statement
 pub single-body : (b : List ℕ) → single b ≡ true → b ≡ bodyOf (statementOf b)
@@ -97,9 +97,9 @@ module _ {s : Statement} (w : Writable july s) where
       record {
         line = refl;
         valid = (w .valid, tt);
-        ok = rw (one-records july2004 s) (w .ok);
+        ok = rw (one-records (editionOf plain) s) (w .ok);
         layout = sym (body-layout s);
-        few = rw (one-records july2004 s) (w .few);
+        few = rw (one-records (editionOf plain) s) (w .few);
       }
 
   -- so it is a file of it
@@ -120,10 +120,10 @@ module _ {s : Statement} (w : Writable july s) where
   pub length-body : length (bodyOf s) ≡ sizeOf s * recordSize
   unfolding bodyOf widthOf
   length-body =
-      let rs = recordsOf july2004 s in
+      let rs = recordsOf (editionOf plain) s in
       ap (λ l. length (flat l)) (unended rs)
       ∙ length-flat recordSize (piecesFor (codingOf plain) plain rs) (wide-pieces (codingOf plain) plain (lawful plain) refl rs (w .ok))
-      ∙ ap (λ (n : ℕ). n * recordSize) (length-map (map encodeRecord rs) (pieceOf plain) ∙ length-map rs encodeRecord ∙ length-one july2004 s)
+      ∙ ap (λ (n : ℕ). n * recordSize) (length-map (map encodeRecord rs) (pieceOf plain) ∙ length-map rs encodeRecord ∙ length-one (editionOf plain) s)
 
   -- a statement has two records at least
   pub size-most : sizeOf s ≤ mostInStatement

@@ -15,7 +15,7 @@ use Rattle.fields.specs.declared.Valued.{Valued}
 use Rattle.cash.specs.Value.{total, chosen, valueAt, sumOn}
 use Rattle.cash.specs.Buckets.{rowOf}
 use Rattle.cash.proofs.Tied.{Tied}
-use Rattle.cash.proofs.Group.{swap, less}
+use Rattle.cash.proofs.Group.{swap}
 
 -- the same test, the same choice
 pub chosen-same : (p q : Valued → Bool) → ((m : Valued) → p m ≡ q m) → (ms : List Valued) → chosen p ms ≡ chosen q ms

@@ -23,7 +23,6 @@ ghost use Rattle.cash.specs.Calls.{spanOf, firstFrom, Adding, Entering, 
 ghost use Rattle.cash.specs.Answers.{Positions, PositionNumber, Balance, DayAfter};
 use dates::ALL_DAYS;
 use dates::LAST_DAY;
-use framing::Form;
 use framing::PLAIN;
 use journal::Holding;
 use records::RECORD;

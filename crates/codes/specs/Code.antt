@@ -13,17 +13,21 @@ use Rattle.zones.specs.Table.{tabulate}
 use Rattle.zones.specs.Text.{bytes}
 use Rattle.codes.specs.Annex.{Family, OPCA, OPPF, OPET, OPTB, AGFR, OPFI, DIVE, Ticks, debit, credit, both, Row, row, annex, withdrawn}
 
+-- how many characters a code is made of: 0 to 9, A to Z
+abbrev pub characters : ℕ
+characters = 36
+
 -- the value of a character: 0 to 9 are 0 to 9, A to Z are 10 to 35; 36 for any other byte
 unfoldable pub charValue : ℕ → ℕ
-charValue b = pick (between 48 57 b) (b - 48) (pick (between 65 90 b) (10 + (b - 65)) 36)
+charValue b = pick (between 48 57 b) (b - 48) (pick (between 65 90 b) (10 + (b - 65)) characters)
 
--- how many codes two characters can be: 36 times 36
+-- how many codes two characters can be: 1,296
 abbrev pub mostCodes : ℕ
-mostCodes = 1296
+mostCodes = characters * characters
 
 -- the index of a code: 36 times the first character plus the second
 abbrev pub indexOf : ℕ → ℕ → ℕ
-indexOf first second = 36 * charValue first + charValue second
+indexOf first second = characters * charValue first + charValue second
 
 -- the index of a code in quotes
 abbrev pub index : String → ℕ
@@ -74,8 +78,8 @@ codeTable = tabulate numberAt 0 mostCodes
 -- the number in a table of the code of two bytes: 0 where one is outside A-Z, 0-9
 unfoldable pub numberIn : List ℕ → ℕ → ℕ → ℕ
 numberIn table first second =
-    pick (leb 36 (charValue first)) 0
-    (pick (leb 36 (charValue second)) 0
+    pick (leb characters (charValue first)) 0
+    (pick (leb characters (charValue second)) 0
     (getD table (indexOf first second) 0))
 
 -- the number of a code by annex 2

@@ -295,7 +295,7 @@ ordinal-day k h = by (isDay k) refl
     by true e = refl
     by false e = absurd (omega (arith, h, ordinal-none k e))
 
--- every day before 31 December 2079 has a next one
+-- the last of all days, and its ordinal
 pub last-day : isDay lastDay ≡ true
 unfolding isDay exists daysIn
 last-day = refl
@@ -304,5 +304,6 @@ pub last-ordinal : suc (ordinalOf lastDay) ≡ allDays
 unfolding ordinalOf isDay exists daysIn beforeYear beforeMonth
 last-ordinal = refl
 
+-- every day before it has a next one
 pub not-last : (k : ℕ) → isDay k ≡ true → k < lastDay → suc (ordinalOf k) < allDays
 not-last k h l = omega (arith, ordinal-less k lastDay h last-day l, last-ordinal)

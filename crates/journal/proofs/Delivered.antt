@@ -13,7 +13,7 @@ use Rattle.grammar.specs.Answer.{Answer, accepted}
 use Rattle.grammar.specs.Statements.{Statement}
 use Rattle.grammar.specs.Files.{canonical, Reads, Writable, statementsOf, checkOf}
 use Rattle.grammar.specs.Parts.{noStatement}
-use Rattle.records.specs.July.{recordSize, july, codingOf}
+use Rattle.records.specs.July.{recordSize, codingOf}
 use Rattle.records.proofs.Theorems.{reads, part-reads, check-canonical, statements-canonical}
 use Rattle.bodies.proofs.Single.{reads-writable}
 use Rattle.entries.specs.Entries.{tableSize}
@@ -26,10 +26,10 @@ use Rattle.journal.specs.Arrivals.{arrivals}
 use Rattle.journal.proofs.Runs.{Kept, kept, ran, kept-journal, kept-length}
 
 -- each statement of an accepted file can be written
-pub file-writable : {f : Form} {b : List ℕ} {ss : List Statement} → Reads (codingOf f) f b ss → All (Writable july) ss
+pub file-writable : {f : Form} {b : List ℕ} {ss : List Statement} → Reads (codingOf f) f b ss → All (Writable (codingOf f)) ss
 file-writable {f} {b} {ss} r = each ss (λ i h. reads-writable (part-reads r i h))
   where
-    each : (ts : List Statement) → ((i : ℕ) → i < length ts → Writable july (getD ts i noStatement)) → All (Writable july) ts
+    each : (ts : List Statement) → ((i : ℕ) → i < length ts → Writable (codingOf f) (getD ts i noStatement)) → All (Writable (codingOf f)) ts
     each [] p = tt
     each (t ∷ ts) p = (p 0 (omega arith), each ts (λ i h. p (suc i) (omega arith)))
 

@@ -18,7 +18,7 @@ use Rattle.grammar.specs.Answer.{Answer, accepted}
 use Rattle.grammar.specs.Statements.{Statement}
 use Rattle.grammar.specs.Files.{Reads, Writable, statementsOf, checkOf}
 use Rattle.grammar.specs.Parts.{sizeOf, recordsBefore, noStatement}
-use Rattle.records.specs.July.{recordSize, july, codingOf}
+use Rattle.records.specs.July.{recordSize, codingOf}
 use Rattle.records.proofs.Theorems.{reads}
 use Rattle.statements.specs.declared.Checked.the-variants as C
 use Rattle.statements.specs.Answers.{checkedOf}
@@ -136,7 +136,7 @@ unfolding linesOf
 roomy-snoc e k size [] s r h l = (omega arith, omega arith, tt)
 roomy-snoc e k size (t ∷ P) s r h l = (r .0, r .1, roomy-snoc (e + 1) (k + sizeOf t) size P s (r .2) (omega arith) (omega arith))
 
-reading-writable : (f : Form) (hs : List (List ℕ)) (P : List Statement) → Reading f hs P → All (Writable july) P
+reading-writable : (f : Form) (hs : List (List ℕ)) (P : List Statement) → Reading f hs P → All (Writable (codingOf f)) P
 reading-writable f [] [] r = tt
 reading-writable f [] (s ∷ P) r = absurd r
 reading-writable f (h ∷ hs) [] r = absurd r

@@ -18,7 +18,7 @@ use Rattle.grammar.proofs.Rows.{addsThen}
 use Rattle.grammar.proofs.Parts.{all-drop, map-drop}
 use Rattle.grammar.proofs.Canonical.{wide-all}
 use Rattle.grammar.proofs.Exact.{reads-flat, reads-records, reads-fine}
-use Rattle.records.specs.July.{recordSize, july, codingOf, editionOf}
+use Rattle.records.specs.July.{recordSize, codingOf, editionOf}
 use Rattle.records.proofs.Lawful.{lawful}
 
 -- the records behind some 05

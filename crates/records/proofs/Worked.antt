@@ -19,7 +19,7 @@ use Rattle.grammar.specs.Machine.{judgeOf, scan}
 use Rattle.grammar.specs.Rules.{outOfPlace, differs, misdated, unsummed, secondMmo, tooLong}
 use Rattle.grammar.specs.Files.{pieces, checkOf}
 use Rattle.grammar.specs.Demand.{Demand2}
-use Rattle.records.specs.July.{unknownCode, isMmo, layoutFor, misfit, undated, decodeRecord, writeMovement, repeats, canonRecord, noDebitZero, july, codingOf}
+use Rattle.records.specs.July.{unknownCode, isMmo, layoutFor, misfit, undated, decodeRecord, writeMovement, repeats, canonRecord, noDebitZero, codingOf}
 use Rattle.records.specs.Worked.{nil, counts, cases, written, answers, expected}
 use Rattle.records.proofs.Theorems.{reads, accepted-reads}
 

@@ -27,7 +27,7 @@ use Rattle.writer.specs.declared.Tally.{Tally}
 use Rattle.writer.specs.Values.{movementsFrom, statementFrom, countedIn, Carried}
 use Rattle.writer.specs.Test.{begun, tallied, completed, carries}
 use Rattle.writer.proofs.Alls.{all-append, all-left, all-right, all-map, all-unmap}
-use Rattle.writer.proofs.Rows.{FineRows, after, run, passes}
+use Rattle.writer.proofs.Rows.{FineRows, run, passes}
 
 -- the records of some movements can all be written
 abbrev Held : Key → List values.Movement → Type 0

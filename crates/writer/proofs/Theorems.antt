@@ -19,7 +19,7 @@ use Rattle.grammar.proofs.Seam.{piecesFor, bodies-pieces}
 use Rattle.grammar.proofs.Canonical.{pieces-canonical}
 use Rattle.grammar.proofs.Exact.{gives-reads, reads-pieces}
 use Rattle.grammar.proofs.Trips.{one-records}
-use Rattle.records.specs.July.{recordSize, Holds, july, encodeRecord, noDebitZero, codingOf, editionOf}
+use Rattle.records.specs.July.{recordSize, Holds, encodeRecord, noDebitZero, codingOf, editionOf}
 use Rattle.records.proofs.Lawful.{lawful}
 use Rattle.records.proofs.Theorems as records
 use Rattle.fields.specs.declared.Movement.{Movement}
@@ -90,7 +90,7 @@ module _ {f : Form} {b : List ℕ} {ss : List Statement} (r : Reads (codingOf f)
   alone : Reads (codingOf f) f (partOf (codingOf f) f b (j + 1)) (t ∷ [])
   alone = records.part-reads r j l
 
-  writable : Writable july t
+  writable : Writable (codingOf f) t
   writable = records.writable t .0 (f, (partOf (codingOf f) f b (j + 1), alone))
 
   held : All Holds (recordsOfMovements (editionOf f) (t .key) (t .movements))

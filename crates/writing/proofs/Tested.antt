@@ -2,7 +2,7 @@
 use mathlib.Core.Path.{_≡_, sym, ap, _∙_}
 use mathlib.Core.Bool.{Bool, true, false, _&&_, _||_}
 use mathlib.Core.List.{List, [], _∷_}
-use Prim.Native.Nat.{ℕ, _<_}
+use Prim.Native.Nat.{ℕ, _^_, _<_}
 use native.Mathlib.Omega.{arith}
 use lib.Dec.{eqb, ltb}
 use lib.ListN.{length, take, length-take}
@@ -39,7 +39,7 @@ key-tested k w p q r s t =
 pub posting-tested : (m : Movement) {a b c d e f g h i j : Bool} → RowWide m
     → a ≡ all permitted (m .internal) → b ≡ all alnum (m .code) → c ≡ isDay (m .booked) → d ≡ (all digit (m .reject) || all blank (m .reject)) → e ≡ isDay (m .value)
     → f ≡ all permitted (m .label) → g ≡ inClass flag (m .exempt) → h ≡ inClass flag (m .unavailable) → i ≡ hasAmount (m .amount) → j ≡ all permitted (m .reference)
-    → (a && (b && (c && (d && (e && (f && (ltb (m .entry) 10000000 && (g && (h && (i && j)))))))))) ≡ postingHolds (postingOf m)
+    → (a && (b && (c && (d && (e && (f && (ltb (m .entry) (10 ^ 7) && (g && (h && (i && j)))))))))) ≡ postingHolds (postingOf m)
 unfolding postingHolds
 posting-tested m w p q r s t u v x y z =
     conj (sized (m .internal) (w .0) p)
@@ -48,7 +48,7 @@ posting-tested m w p q r s t u v x y z =
     (conj (sized (m .reject) (w .1 .1 .0) s)
     (conj t
     (conj (sized (m .label) (w .1 .1 .1 .0) u)
-    (ap (_&&_ (ltb (m .entry) 10000000)) (conj v (conj x (conj y (sized (m .reference) (w .1 .1 .1 .1 .0) z))))))))))
+    (ap (_&&_ (ltb (m .entry) (10 ^ 7))) (conj v (conj x (conj y (sized (m .reference) (w .1 .1 .1 .1 .0) z))))))))))
 
 -- at the code's returns
 module _ (t : List ℕ) where

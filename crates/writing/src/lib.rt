@@ -36,6 +36,9 @@ fn key_fits(key: Key) -> bool
                 & (is_digit(key.decimals) & zones::alnums(&key.account))))
 }
 
+// How many entry numbers there are: those of seven digits.
+const ENTRY_NUMBERS: u32 = 10000000;
+
 fn posting_fits(m: Movement) -> bool
     ensures { λ r. ⌜ r ≡ postingHolds (postingOf m) ⌝ }
 {
@@ -45,7 +48,7 @@ fn posting_fits(m: Movement) -> bool
                 & ((zones::digits(&m.reject) | zones::blanks(&m.reject))
                     & (dates::is_day(m.value)
                         & (zones::permitted(&m.label)
-                            & ((m.entry < 10000000)
+                            & ((m.entry < ENTRY_NUMBERS)
                                 & (is_flag(m.exempt)
                                     & (is_flag(m.unavailable)
                                         & (amounts::has_amount(m.amount)

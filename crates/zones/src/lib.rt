@@ -121,11 +121,14 @@ fn low_bits(b: u8) -> u64
     (b % 16) as u64
 }
 
-// The value of some digits; 0 where there are too many for 64 bits.
+// The most bytes whose value always fits 64 bits.
+const MOST_DIGITS: usize = 19;
+
+// The value of some digits; 0 where there are more than that.
 pub fn number(s: &[u8]) -> u64
     ensures { λ r. ⌜ Number (now (s .entry)) r ⌝ }
 {
-    if 19 < s.len() {
+    if MOST_DIGITS < s.len() {
         return 0;
     }
     let mut n: u64 = 0;
