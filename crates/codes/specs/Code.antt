@@ -13,7 +13,7 @@ use Rattle.zones.specs.Table.{tabulate}
 use Rattle.zones.specs.Text.{bytes}
 use Rattle.codes.specs.Annex.{Family, OPCA, OPPF, OPET, OPTB, AGFR, OPFI, DIVE, Ticks, debit, credit, both, Row, row, annex, withdrawn}
 
--- how many characters a code is made of: 0 to 9, A to Z
+-- how many characters there are for a code: 0 to 9, A to Z
 abbrev pub characters : ℕ
 characters = 36
 

@@ -3,7 +3,7 @@ ghost use mathlib.Core.Path.{_≡_};
 ghost use Rattle.codes.specs.Code.{charValue, signTicked, markFor};
 ghost use Rattle.codes.specs.Answers.{Table, NumberIn, MarkIn, Number, Mark, DebitTicked, CreditTicked, Family, Generic};
 
-// The characters of a code: 0 to 9, A to Z.
+// The characters that there are for a code: 0 to 9, A to Z.
 const CHARACTERS: usize = 36;
 
 // The codes of two characters, and so the numbers of a table.

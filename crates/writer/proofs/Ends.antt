@@ -30,7 +30,7 @@ length-opening k d a x = by (eqb (length x) recordSize) (balanceHolds k d a) ref
     by true false p q = refl
     by false u p q = refl
 
-pub bounds : (bytes n : ℕ) → (leb (2 * recordSize) bytes && leb bytes n) ≡ true → ((2 * recordSize) ≤ bytes) × (bytes ≤ n)
+pub bounds : (bytes n : ℕ) → (leb (2 * recordSize) bytes && leb bytes n) ≡ true → (2 * recordSize ≤ bytes) × (bytes ≤ n)
 bounds bytes n e = (leb-true (2 * recordSize) bytes (and-left (leb (2 * recordSize) bytes) _ e), leb-true bytes n (and-right (leb (2 * recordSize) bytes) _ e))
 
 module _ (bytes : ℕ) (h : Head) (out : List ℕ) where
@@ -39,7 +39,7 @@ module _ (bytes : ℕ) (h : Head) (out : List ℕ) where
   no-ends e = sym (rw e)
 
   module _ (e : (leb (2 * recordSize) bytes && leb bytes (length out)) ≡ true) where
-    some : (2 * recordSize) ≤ bytes
+    some : 2 * recordSize ≤ bytes
     some = bounds bytes (length out) e .0
 
     inside : bytes ≤ length out
