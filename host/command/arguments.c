@@ -72,7 +72,8 @@ static const struct subcommand subcommands[] = {
      .operands = "JOURNAL FILE..",
      .summary = "stores the statements that the journal does not hold yet",
      .text = "Stores of each file the statements that the journal does not hold yet: all of them or, where it\n"
-             "is refused, none. - is standard input. A file can be delivered again at any time.\n"
+             "is refused, none. - is standard input. A file can be delivered again at any time. Name the oldest\n"
+             "first: what lies before a stored statement of the same account can never be stored after it.\n"
              "\n"
              "Prints 'FILE: stored S, held H' for each file, when its statements are safe on the disk.\n",
      .options = OPTION_LINE_END | OPTION_WAIT,

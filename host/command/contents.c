@@ -7,7 +7,7 @@
 #include "status.h"
 
 /* Entry after entry, up to the first that there is not. */
-static size_t list_entries(const struct bytes *journal, struct entry entries[CROWNHAZEL_MOST_ENTRIES]) {
+size_t list_entries(const struct bytes *journal, struct entry entries[CROWNHAZEL_MOST_ENTRIES]) {
     size_t count = 0;
     while (count < CROWNHAZEL_MOST_ENTRIES) {
         struct entry *entry = &entries[count];
@@ -57,30 +57,28 @@ bool same_account(const struct entry *one, const struct entry *other) {
     return memcmp(one->row, other->row, ROW_KEY) == 0;
 }
 
-bool has_account(const struct entry *entries, size_t count, const struct entry *entry) {
+bool has_row(const struct entry *entries, size_t count, const struct entry *entry) {
     size_t at = 0;
-    while (at < count && !same_account(&entries[at], entry)) {
+    while (at < count && memcmp(entries[at].row, entry->row, CROWNHAZEL_ROW) != 0) {
         at++;
     }
     return at < count;
 }
 
-/* Dates stand as digits, the year first, the old one before the new. */
-bool begins_before(const struct entry *one, const struct entry *other) {
-    return memcmp(one->row + ROW_OLD_DATE, other->row + ROW_OLD_DATE, CROWNHAZEL_ROW - ROW_OLD_DATE) < 0;
+/* Dates stand as digits, the year first. */
+int gap_between(const struct entry *before, const struct entry *after) {
+    return memcmp(after->row + ROW_OLD_DATE, before->row + ROW_NEW_DATE, ROW_NEW_DATE - ROW_OLD_DATE);
 }
 
-/* What was stored last stands last. A delivery leaves a sound journal, so there is no test here. */
-size_t begun_by(const struct bytes *journal, size_t stored, struct entry begun[CROWNHAZEL_MOST_ENTRIES]) {
-    struct entry entries[CROWNHAZEL_MOST_ENTRIES];
-    size_t count = stored == 0 ? 0 : list_entries(journal, entries);
-    size_t found = 0;
-    for (size_t i = count - stored; i < count; i++) {
-        if (!has_account(entries, i, &entries[i])) {
-            begun[found++] = entries[i];
-        }
+bool ends_before(const struct entry *one, const struct entry *other) {
+    return memcmp(one->row + ROW_NEW_DATE, other->row + ROW_NEW_DATE, CROWNHAZEL_ROW - ROW_NEW_DATE) < 0;
+}
+
+const struct entry *last_of_account(const struct entry *entries, size_t count, const struct entry *entry) {
+    while (count > 0 && !same_account(&entries[count - 1], entry)) {
+        count--;
     }
-    return found;
+    return count == 0 ? NULL : &entries[count - 1];
 }
 
 /* The account of an entry, which is a new one where none has its key. */

@@ -43,14 +43,21 @@ uint64_t read_contents(const struct bytes *journal, struct contents *contents);
  * message where it is not STATUS_DONE; then there is nothing to let go. */
 int look_into(const char *name, struct bytes *journal, struct contents *contents);
 
-/* Whether two entries are of one account, whether one among several is of another's, and whether one comes before the
- * other: by the old date, then by the new one. */
-bool same_account(const struct entry *one, const struct entry *other);
-bool has_account(const struct entry *entries, size_t count, const struct entry *entry);
-bool begins_before(const struct entry *one, const struct entry *other);
+/* Lists the entries of a sound journal, which is not tested again; their number. */
+size_t list_entries(const struct bytes *journal, struct entry entries[CROWNHAZEL_MOST_ENTRIES]);
 
-/* The first entry of each account that the last so many entries of a sound journal have begun; their number. */
-size_t begun_by(const struct bytes *journal, size_t stored, struct entry begun[CROWNHAZEL_MOST_ENTRIES]);
+/* Whether two entries are of one account, and whether one among several has another's account and its dates. */
+bool same_account(const struct entry *one, const struct entry *other);
+bool has_row(const struct entry *entries, size_t count, const struct entry *entry);
+
+/* Below 0 where one begins before another has ended, 0 where on that very day, above 0 where days lie between. */
+int gap_between(const struct entry *before, const struct entry *after);
+
+/* Whether one ends on an earlier day than another. */
+bool ends_before(const struct entry *one, const struct entry *other);
+
+/* The last of several entries that is of an entry's account; NULL where there is none. */
+const struct entry *last_of_account(const struct entry *entries, size_t count, const struct entry *entry);
 
 /* An account: its first and its last entry, counted from 0, and how many it has. */
 struct account {

@@ -34,10 +34,11 @@ static int deliver_held(struct place *place, struct bytes *journal, const struct
                         struct delivered *delivered) {
     delivered->answer = delivered_to(journal, input);
     delivered->lines = lines_of(journal);
+    delivered->count = 0;
     if (crownhazel_is_refused(delivered->answer)) {
         return STATUS_DONE;
     }
-    delivered->begun_count = begun_by(journal, crownhazel_stored(delivered->answer), delivered->begun);
+    delivered->count = list_entries(journal, delivered->entries);
     return keep(place, journal, delivered->answer);
 }
 

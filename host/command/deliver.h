@@ -8,10 +8,10 @@
 
 /* What a delivery has said and done. */
 struct delivered {
-    uint64_t answer;                             /* the library's, a refusal too */
-    size_t lines;                                /* of the journal */
-    struct entry begun[CROWNHAZEL_MOST_ENTRIES]; /* the first entry of each account that it has begun */
-    size_t begun_count;
+    uint64_t answer;                               /* the library's, a refusal too */
+    size_t lines;                                  /* of the journal */
+    struct entry entries[CROWNHAZEL_MOST_ENTRIES]; /* the journal's, what was stored last; none on a refusal */
+    size_t count;
 };
 
 /* Delivers a file to the journal that the first operand names. Answers STATUS_DONE, where all that was stored or held

@@ -3,6 +3,7 @@
 #include <inttypes.h>
 #include <stdio.h>
 #include <stdlib.h>
+#include <string.h>
 #include <unistd.h>
 
 #include "commands.h"
@@ -22,12 +23,13 @@ struct night {
     const char *journal;
     struct folders folders;
     struct waiting waiting;
-    struct contents before;                      /* what the journal held when the round began */
+    struct contents known;                       /* what the journal held when it was last looked at */
     size_t delivered;                            /* files that the journal holds */
     size_t done, refused;                        /* files */
     uint64_t stored, held;                       /* statements */
     struct entry begun[CROWNHAZEL_MOST_ENTRIES]; /* the first entry of each account that began in this run */
     size_t begun_count;
+    size_t gaps; /* statements stored in this run that begin on a later day than their account's last one ended */
     int status;
     bool ended; /* nothing more is delivered */
 };
@@ -45,13 +47,27 @@ static void stop_at(struct night *night, struct waiting_file *file) {
     night->ended = !night->arguments->go_on;
 }
 
+/* One entry that was stored, beside those before it. */
+static void note_stored(struct night *night, size_t at) {
+    const struct entry *entry = &night->known.entries[at];
+    const struct entry *last = last_of_account(night->known.entries, at, entry);
+    if (last != NULL) {
+        night->gaps += gap_between(last, entry) > 0;
+    } else if (night->begun_count < CROWNHAZEL_MOST_ENTRIES) {
+        night->begun[night->begun_count++] = *entry;
+    }
+}
+
 /* What a delivery has done to the journal counts, whatever becomes of the file. */
 static void note_delivered(struct night *night, const struct delivered *delivered) {
+    size_t stored = crownhazel_stored(delivered->answer);
     night->delivered++;
-    night->stored += crownhazel_stored(delivered->answer);
+    night->stored += stored;
     night->held += crownhazel_held(delivered->answer);
-    for (size_t i = 0; i < delivered->begun_count && night->begun_count < CROWNHAZEL_MOST_ENTRIES; i++) {
-        night->begun[night->begun_count++] = delivered->begun[i];
+    night->known.count = delivered->count;
+    memcpy(night->known.entries, delivered->entries, delivered->count * sizeof delivered->entries[0]);
+    for (size_t i = delivered->count - stored; i < delivered->count; i++) {
+        note_stored(night, i);
     }
 }
 
@@ -151,19 +167,14 @@ static void take_file(struct night *night, struct waiting_file *file) {
     close(descriptor); /* nothing was written through it */
 }
 
-static bool is_known(const struct night *night, const struct entry *entry) {
-    return has_account(night->before.entries, night->before.count, entry) ||
-           has_account(night->begun, night->begun_count, entry);
-}
-
-/* The file that another one has to wait for: with it an account would begin that has an earlier statement there, which
- * could never be stored then. NULL where there is none; else `account` is the entry with which it would begin. */
+/* The file that another one has to wait for: that has an earlier statement of an account, which could never be stored
+ * behind one of this file. NULL where there is none; else `entry` is the one of this file. */
 static const struct waiting_file *find_behind(const struct night *night, const struct waiting_file *file,
-                                              const struct entry **account) {
+                                              const struct entry **entry) {
     const struct waiting_file *behind = NULL;
-    for (size_t i = 0; behind == NULL && i < file->begins.count; i++) {
-        *account = &file->begins.list[i];
-        behind = is_known(night, *account) ? NULL : waits_behind(&night->waiting, file, *account);
+    for (size_t i = 0; behind == NULL && i < file->periods.count; i++) {
+        *entry = &file->periods.list[i];
+        behind = waits_behind(&night->waiting, file, i, &night->known);
     }
     return behind;
 }
@@ -171,10 +182,10 @@ static const struct waiting_file *find_behind(const struct night *night, const s
 /* Every file that waits, oldest first. */
 static void run_round(struct night *night) {
     struct waiting *waiting = &night->waiting;
-    const struct entry *account;
+    const struct entry *entry;
     for (size_t i = 0; i < waiting->count && !night->ended; i++) {
         struct waiting_file *file = &waiting->list[i];
-        file->behind = file->fate == WAITS ? find_behind(night, file, &account) : NULL;
+        file->behind = file->fate == WAITS ? find_behind(night, file, &entry) : NULL;
         if (file->fate == WAITS && file->behind == NULL) {
             show_passing("%zu of %zu files", i, waiting->count);
             take_file(night, file);
@@ -183,10 +194,10 @@ static void run_round(struct night *night) {
     wipe_passing();
 }
 
-/* Which accounts the journal has by now; others may deliver to it, or restore it. */
+/* What the journal holds by now; others may deliver to it, or restore it. */
 static bool look_again(struct night *night) {
     struct bytes journal;
-    int status = look_into(night->journal, &journal, &night->before);
+    int status = look_into(night->journal, &journal, &night->known);
     if (status == STATUS_DONE) {
         let_go(&journal);
     }
@@ -210,16 +221,16 @@ static void run_rounds(struct night *night) {
 
 static int tell_behind(const struct night *night, const struct waiting_file *file) {
     char key[KEY_FORM + 1], day[DAY_FORM + 1];
-    const struct entry *account = NULL;
-    const struct waiting_file *behind = find_behind(night, file, &account);
+    const struct entry *entry = NULL;
+    const struct waiting_file *behind = find_behind(night, file, &entry);
     if (behind == NULL) {
         return STATUS_DONE; /* the run has ended before its turn came again */
     }
-    spell_key(account->row, key);
-    spell_day(day_in(account->row + ROW_OLD_DATE), day);
+    spell_key(entry->row, key);
+    spell_day(day_in(entry->row + ROW_OLD_DATE), day);
     complain(file->path,
-             "it waits for %s: with it the account %s would begin on %s, and what comes before that could never be "
-             "stored",
+             "it waits for %s: that has an earlier statement of the account %s, which could never be stored after the "
+             "one here that begins on %s",
              behind->path, key, day);
     return STATUS_JOURNAL_REFUSES;
 }
@@ -250,7 +261,8 @@ static int tell_totals(const struct night *night) {
     return status;
 }
 
-/* A file that the journal does not hold may have the first statement of an account that has begun without it. */
+/* A file that the journal does not hold may have the first statement of an account that has begun without it, or one
+ * that lies between two. */
 static void warn(const struct night *night) {
     size_t passed = night->waiting.count - night->delivered;
     if (night->begun_count > 0 && passed > 0) {
@@ -258,6 +270,12 @@ static void warn(const struct night *night) {
                  "accounts begin in this run, and not all files are in the journal (%zu are not): look whether one of "
                  "them is earlier, for what comes before an account's first statement can never be stored",
                  passed);
+    }
+    if (night->gaps > 0 && passed > 0) {
+        complain(night->journal,
+                 "accounts pass over days in this run (%zu times), and not all files are in the journal (%zu are not): "
+                 "look whether one of them lies between, for what an account has passed can never be stored",
+                 night->gaps, passed);
     }
 }
 

@@ -120,10 +120,10 @@ static bool read_file(const char *path, int descriptor, struct stat *status, str
     return false;
 }
 
-/* Its date and its accounts. */
+/* Its date and its statements. */
 static bool take_dates(struct waiting_file *file, const struct input *input) {
     file->day = earliest_day(input);
-    if (file->day == 0 || find_begins(input, &file->begins)) {
+    if (file->day == 0 || find_periods(input, &file->periods)) {
         return true;
     }
     failed(file->path, "cannot be read");
@@ -173,7 +173,7 @@ int find_waiting(const struct folder *incoming, const struct place *journal, str
 void forget_waiting(struct waiting *waiting) {
     for (size_t i = 0; i < waiting->count; i++) {
         free(waiting->list[i].path);
-        forget_begins(&waiting->list[i].begins);
+        forget_periods(&waiting->list[i].periods);
     }
     free(waiting->list);
     *waiting = (struct waiting){0};
@@ -209,21 +209,63 @@ bool was_changed(const struct waiting_file *file, int descriptor) {
            then->st_ctim.tv_nsec != now.st_ctim.tv_nsec;
 }
 
-/* Whether another file has an earlier statement of the account of an entry. */
-static bool has_earlier(const struct waiting_file *other, const struct entry *entry) {
-    for (size_t i = 0; i < other->begins.count; i++) {
-        if (same_account(&other->begins.list[i], entry)) {
-            return begins_before(&other->begins.list[i], entry);
+/* By the old date, then by the new one. Both stand as digits, the year first. */
+static bool is_earlier(const struct entry *one, const struct entry *other) {
+    return memcmp(one->row + ROW_OLD_DATE, other->row + ROW_OLD_DATE, CROWNHAZEL_ROW - ROW_OLD_DATE) < 0;
+}
+
+/* Whether one of two statements of an account has to be stored before the other, or never can be: it is the earlier,
+ * and by its days it could be stored behind the last one. Where the other begins on the very day on which the last one
+ * ends, no days are left out: it goes ahead, unless the earlier begins and ends on that day. */
+static bool comes_first(const struct entry *one, const struct entry *other, const struct entry *last) {
+    bool could_be_stored = last == NULL || gap_between(last, one) >= 0;
+    bool goes_ahead = last != NULL && gap_between(last, other) == 0 && gap_between(one, other) < 0;
+    return could_be_stored && !goes_ahead && is_earlier(one, other);
+}
+
+/* A statement in its turn, and what is stored by then: the journal's entries, and those before it in its file. */
+struct turn {
+    const struct entry *entry;
+    const struct contents *journal;
+    const struct entry *own;
+    size_t own_count;
+    const struct entry *last; /* what ends last of its account; NULL where there is nothing */
+};
+
+/* In the journal the account's last entry ends last, since along a chain new dates never fall. */
+static struct turn make_turn(const struct contents *journal, const struct periods *file, size_t at) {
+    struct turn turn = {.entry = &file->list[at], .journal = journal, .own = file->list, .own_count = at};
+    turn.last = last_of_account(journal->entries, journal->count, turn.entry);
+    for (size_t i = 0; i < at; i++) {
+        const struct entry *own = &file->list[i];
+        if (same_account(own, turn.entry) && (turn.last == NULL || ends_before(turn.last, own))) {
+            turn.last = own;
+        }
+    }
+    return turn;
+}
+
+/* Whether one of the same account and the same dates is stored by then. On a single day it could follow itself. */
+static bool is_there(const struct turn *turn, const struct entry *entry) {
+    return has_row(turn->journal->entries, turn->journal->count, entry) || has_row(turn->own, turn->own_count, entry);
+}
+
+static bool has_earlier(const struct waiting_file *file, const struct turn *turn) {
+    for (size_t i = 0; i < file->periods.count; i++) {
+        const struct entry *entry = &file->periods.list[i];
+        if (same_account(entry, turn->entry) && comes_first(entry, turn->entry, turn->last) && !is_there(turn, entry)) {
+            return true;
         }
     }
     return false;
 }
 
-const struct waiting_file *waits_behind(const struct waiting *waiting, const struct waiting_file *file,
-                                        const struct entry *entry) {
+const struct waiting_file *waits_behind(const struct waiting *waiting, const struct waiting_file *file, size_t at,
+                                        const struct contents *journal) {
+    struct turn turn = make_turn(journal, &file->periods, at);
     for (size_t i = 0; i < waiting->count; i++) {
         const struct waiting_file *other = &waiting->list[i];
-        if (other != file && other->fate != MOVED && has_earlier(other, entry)) {
+        if (other != file && other->fate != MOVED && has_earlier(other, &turn)) {
             return other;
         }
     }

@@ -7,9 +7,9 @@
 #include <stdint.h>
 #include <sys/stat.h>
 
-#include "begins.h"
 #include "folders.h"
 #include "input.h"
+#include "periods.h"
 #include "place.h"
 
 /* What has become of a file: it waits, it cannot be taken in this run, or it has been moved. */
@@ -17,9 +17,9 @@ enum fate { WAITS, PASSED_OVER, MOVED };
 
 struct waiting_file {
     char *path;
-    struct stat status;   /* as it was when the run began */
-    uint64_t day;         /* the earliest old balance date in it; 0 where there is none */
-    struct begins begins; /* its accounts; none where it is refused */
+    struct stat status;     /* as it was when the run began */
+    uint64_t day;           /* the earliest old balance date in it; 0 where there is none */
+    struct periods periods; /* its statements; none where it is refused */
     enum fate fate;
     const struct waiting_file *behind; /* the file that it has to wait for; NULL where there is none */
     uint64_t refusal;                  /* what the journal said last; 0 where it was not asked */
@@ -43,10 +43,10 @@ void forget_waiting(struct waiting *waiting);
  * it keeps is the caller's to let go, and the descriptor to close. */
 bool open_waiting(struct waiting_file *file, struct input *input, int *descriptor);
 
-/* A file that has not been moved and has an earlier statement of the account that an entry of this file begins; NULL
- * where there is none. */
-const struct waiting_file *waits_behind(const struct waiting *waiting, const struct waiting_file *file,
-                                        const struct entry *entry);
+/* A file that has not been moved, with a statement that has to be stored before the one at a place of this file, or
+ * never can be, the journal holding what it does; NULL where there is none. */
+const struct waiting_file *waits_behind(const struct waiting *waiting, const struct waiting_file *file, size_t at,
+                                        const struct contents *journal);
 
 /* Whether it has been written to since it was opened so. */
 bool was_changed(const struct waiting_file *file, int descriptor);

@@ -19,7 +19,7 @@ use Rattle.journal.specs.Answers.{answerOf}
 use Rattle.journal.specs.Promises.{Promise, Adds}
 use Rattle.journal.proofs.Delivered.{stored, unchanged}
 use Rattle.journal.proofs.Holdings.{sound-held, sound-body, sound-reads, sound-account, sound-none}
-use Rattle.journal.proofs.Series.{answered, journal-summed}
+use Rattle.journal.proofs.Series.{answered, journal-summed, journal-never-falls}
 
 module _ (j : List ℕ) (h : soundIn j ≡ true) where
   body-of-entry : (e : ℕ) → 0 < e → e ≤ length (heldOf j) → entryBodyOf j e ≡ bodyOf (getD (heldOf j) (e - 1) noStatement)
@@ -43,6 +43,7 @@ module _ (j : List ℕ) (h : soundIn j ≡ true) where
         distinct = k .distinct;
         chained = k .chained;
         summed = journal-summed g;
+        never-falls = journal-never-falls g;
         entry = body-of-entry;
         no-entry = past-the-last;
         held = sound-held j h;

@@ -19,8 +19,9 @@ use Rattle.grammar.specs.Parts.{sizeOf}
 use Rattle.records.specs.July.{july, codingOf}
 use Rattle.records.proofs.Theorems.{counts, reads, unique, reads-canonical, relined-reads, relined-own}
 use Rattle.bodies.specs.Bodies.{bodyOf, identical}
-use Rattle.journal_layout.specs.Chains.{heldAmong, Chained, ofAccount}
+use Rattle.journal_layout.specs.Chains.{heldAmong, Chained, ofAccount, NeverFalls}
 use Rattle.journal_layout.specs.Layout.{isLength, journalOf, Journal, openedOf}
+use Rattle.journal_layout.proofs.Chain.{chain-never-falls}
 use Rattle.journal.specs.declared.Delivery.the-variants.{Done}
 use Rattle.journal.specs.Delivery.{Outcome, delivered, refused, run, linesIn, outcomeOf, contentOf}
 use Rattle.journal.specs.Answers.{answerOf, Delivers}
@@ -129,6 +130,9 @@ all-account k (s ∷ L) w = by (sameKey (s .key) k) (all-account k L (w .1))
 
 pub journal-summed : {j : List ℕ} {ss : List Statement} → Journal j ss → (k : Key) → Summed (ofAccount k ss)
 journal-summed {j} {ss} g k = chain-summed (ofAccount k ss) (g .kept .chained k) (all-account k ss (g .kept .alone))
+
+pub journal-never-falls : {j : List ℕ} {ss : List Statement} → Journal j ss → (k : Key) → NeverFalls (ofAccount k ss)
+journal-never-falls {j} {ss} g k = chain-never-falls (ofAccount k ss) (g .kept .chained k) (all-account k ss (g .kept .alone))
 
 -- ---- sent again
 
@@ -258,3 +262,8 @@ pub same-again : {O : List ℕ → List ℕ} {D : Deliver} → Demand3 O D
     → (later : List Event) → WhollyHeld D (after D (O j) (es ++ (deliver f b ∷ later))) f b (statementsOf (codingOf f) f b)
 same-again d j l es f b s h e later =
     let r = d .reads j l es f b s h e in rw (relined-own r) at (d .again j l es f b s h e later f (r .line))
+
+-- and along each account's chain new dates never fall
+pub dates-never-fall : {O : List ℕ → List ℕ} {D : Deliver} → Demand3 O D
+    → (j : List ℕ) → isLength (length j) ≡ true → (es : List Event) (k : Key) → NeverFalls (ofAccount k (heldAfter D (O j) es))
+dates-never-fall d j l es k = journal-never-falls (d .holds j l es) k

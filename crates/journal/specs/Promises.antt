@@ -17,7 +17,7 @@ use Rattle.records.specs.July.{july, codingOf}
 use Rattle.readers.specs.declared.Place.the-variants as P
 use Rattle.bodies.specs.Bodies.{bodyOf}
 use Rattle.entries.specs.Entries.{mostEntries}
-use Rattle.journal_layout.specs.Chains.{Chained, ofAccount, Distinct}
+use Rattle.journal_layout.specs.Chains.{Chained, ofAccount, NeverFalls, Distinct}
 use Rattle.journal_layout.specs.Layout.{mostLines, linesOf}
 use Rattle.journal_layout.specs.Test.{soundIn, heldOf, entryPlaceOf, entryBodyOf}
 use Rattle.journal.specs.declared.Delivery.the-variants.{Done, Refused}
@@ -39,6 +39,8 @@ pub record Promise (j : List ℕ) (ss : List Statement) : Type 0 where
   pub distinct : Distinct ss
   pub chained : (k : Key) → Chained (ofAccount k ss)
   pub summed : (k : Key) → Summed (ofAccount k ss)
+  -- along an account's chain new dates never fall: its last new date is its latest
+  pub never-falls : (k : Key) → NeverFalls (ofAccount k ss)
   -- the body of entry e, from 1, is that of statement e; there is no other
   pub entry : (e : ℕ) → 0 < e → e ≤ length ss → entryBodyOf j e ≡ bodyOf (getD ss (e - 1) noStatement)
   pub no-entry : (e : ℕ) → length ss < e → entryPlaceOf j e ≡ P.Refused 25 0

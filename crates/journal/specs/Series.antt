@@ -73,7 +73,7 @@ pub record Demand3 (O : List ℕ → List ℕ) (D : Deliver) : Type 0 where
   pub room : (j : List ℕ) → isLength (length j) ≡ true → (es : List Event) → length (after D (O j) es) ≡ length j
   -- no two identical
   pub distinct : (j : List ℕ) → isLength (length j) ≡ true → (es : List Event) → Distinct (heldAfter D (O j) es)
-  -- each account's link, new balance to next old balance
+  -- each account's link, new balance to next old balance, on the day of the new date or later
   pub chained : (j : List ℕ) → isLength (length j) ≡ true → (es : List Event) (k : Key) → Chained (ofAccount k (heldAfter D (O j) es))
   -- its first old balance plus every movement held is its last new balance
   pub summed : (j : List ℕ) → isLength (length j) ≡ true → (es : List Event) (k : Key) → Summed (ofAccount k (heldAfter D (O j) es))

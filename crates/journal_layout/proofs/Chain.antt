@@ -1,9 +1,13 @@
 -- A row in which each statement is new and follows is one without two identical, with an unbroken chain for each account; and the other way round.
 use mathlib.Core.Path.{_≡_, refl, ap}
 use mathlib.Core.Bool.{Bool, true, false, _||_}
+use mathlib.Core.Logic.{_↔_}
 use mathlib.Core.List.{List, [], _∷_, _++_, append-assoc, append-nil}
-use lib.Dec.{eqb}
-use borrow.Author.Tests.{eqb-true, eq-eqb}
+use Prim.Native.Nat.{ℕ, _≤_}
+use native.Mathlib.Omega.{arith}
+use lib.Dec.{leb}
+use lib.IntN.{ℤ}
+use borrow.Author.Tests.{leb-true, le-leb}
 use Rattle.zones.specs.Choice.{pick}
 use Rattle.zones.proofs.Bools.{and-left, and-right, both}
 use Rattle.zones.proofs.Copies.{equal-same}
@@ -11,12 +15,14 @@ use Rattle.framing.specs.Files.{All}
 use Rattle.grammar.specs.declared.Key.{Key}
 use Rattle.grammar.specs.Record.{sameKey}
 use Rattle.grammar.specs.Statements.{Statement}
+use Rattle.grammar.specs.Files.{Writable}
 use Rattle.grammar.proofs.Tests.{clash, sameKey-true, sameKey-self, sameAmount-true, sameAmount-self}
+use Rattle.records.specs.July.{july}
 use Rattle.bodies.specs.Bodies.{bodyOf, identical}
 use Rattle.bodies.proofs.Identical.{identical-bodies}
 use Rattle.journal_layout.specs.declared.Judgement.{Judgement}
 use Rattle.journal_layout.specs.declared.Judgement.the-variants.{Held, First, After}
-use Rattle.journal_layout.specs.Chains.{heldAmong, lastAmong, judgementOf, followsBy, follows, Links, Chained, ofAccount, Distinct}
+use Rattle.journal_layout.specs.Chains.{heldAmong, lastAmong, judgementOf, followsBy, follows, Links, Chained, ofAccount, NeverFalls, Distinct}
 
 -- after those of A, each is new and follows
 abbrev pub Row : List Statement → List Statement → Type 0
@@ -87,16 +93,23 @@ last-account k last (a ∷ A) = by (sameKey (a .key) k) (λ l. last-account k l 
     by true i = i (After (a .new-date) (a .new-balance))
     by false i = i last
 
--- to follow is to link
-links : (s t : Statement) → followsBy (After (s .new-date) (s .new-balance)) (t .old-date) (t .old-balance) ≡ true → Links s t
-links s t h =
-    record {
-      date = eqb-true _ _ (and-left (eqb (s .new-date) (t .old-date)) _ h);
-      balance = sameAmount-true _ _ (and-right (eqb (s .new-date) (t .old-date)) _ h);
-    }
+pub last-snoc : (last : Judgement) (before : List Statement) (h : Statement) → lastOf last (before ++ (h ∷ [])) ≡ After (h .new-date) (h .new-balance)
+last-snoc last [] h = refl
+last-snoc last (x ∷ xs) h = last-snoc (After (x .new-date) (x .new-balance)) xs h
 
-linked : (s t : Statement) → Links s t → followsBy (After (s .new-date) (s .new-balance)) (t .old-date) (t .old-balance) ≡ true
-linked s t l = both (eq-eqb (s .new-date) (t .old-date) (l .date)) (rw (l .balance) (sameAmount-self (t .old-balance)))
+-- to follow another: at or after its date, with its balance
+pub after-exact : (date : ℕ) (balance : ℤ) (d : ℕ) (a : ℤ) → (followsBy (After date balance) d a ≡ true) ↔ ((date ≤ d) × (balance ≡ a))
+after-exact date balance d a = (
+  (λ h. (leb-true date d (and-left (leb date d) _ h), sameAmount-true balance a (and-right (leb date d) _ h))),
+  (λ p. both (le-leb date d (p .0)) (rw (p .1) (sameAmount-self a))),
+)
+
+-- to follow is to link
+pub links : (s t : Statement) → followsBy (After (s .new-date) (s .new-balance)) (t .old-date) (t .old-balance) ≡ true → Links s t
+links s t h = let p = after-exact _ _ _ _ .0 h in record { date = p .0; balance = p .1 }
+
+pub linked : (s t : Statement) → Links s t → followsBy (After (s .new-date) (s .new-balance)) (t .old-date) (t .old-balance) ≡ true
+linked s t l = after-exact _ _ _ _ .1 (l .date, l .balance)
 
 -- a chain with one more that follows its last
 chain-snoc : (L : List Statement) (s : Statement) → Chained L → followsBy (lastOf First L) (s .old-date) (s .old-balance) ≡ true → Chained (L ++ (s ∷ []))
@@ -109,6 +122,21 @@ chain-there : (L : List Statement) (s : Statement) (M : List Statement) → Chai
 chain-there [] s M c = refl
 chain-there (x ∷ []) s M c = linked x s (c .0)
 chain-there (x ∷ y ∷ L) s M c = chain-there (y ∷ L) s M (c .1)
+
+-- along a chain new dates never fall: a statement ends on its old date or later, and the next one begins there or later
+pub chain-never-falls : (L : List Statement) → Chained L → All (Writable july) L → NeverFalls L
+chain-never-falls [] c w = tt
+chain-never-falls (s ∷ []) c w = (tt, tt)
+chain-never-falls (s ∷ t ∷ ts) c w =
+    let i = chain-never-falls (t ∷ ts) (c .1) (w .1) in
+    let a = c .0 .date in
+    let b = w .1 .0 .valid .dates in
+    let d : s .new-date ≤ t .new-date = omega arith in
+    ((d, later ts (i .0) d), i)
+  where
+    later : {x y : ℕ} (ts : List Statement) → All (λ u. y ≤ u .new-date) ts → x ≤ y → All (λ u. x ≤ u .new-date) ts
+    later [] h d = tt
+    later (u ∷ ts) h d = let e = h .0 in (omega arith, later ts (h .1) d)
 
 -- ---- both
 

@@ -4,7 +4,7 @@ use mathlib.Core.Bool.{Bool, true, false, not, _&&_, _||_}
 use mathlib.Core.List.{List}
 use Prim.Native.Nat.{ℕ, suc, _+_, _-_, _<_, _≤_}
 use native.Mathlib.Omega.{arith}
-use lib.Dec.{eqb}
+use lib.Dec.{leb}
 use lib.IntN.{ℤ}
 use mir.Syntax.{w64}
 use mir.Val.{toZ, ofZ}
@@ -41,7 +41,7 @@ module _ (last : Judgement) (f : Form) (h s : List ℕ) {o p : List ℕ} (a : o 
 
 -- `follows` at its last return
 pub follows-after : {j : Judgement} {d : ℕ} {b : ℤ} (date : ℕ) (balance : ℤ) {t : Bool} → j ≡ After d b → t ≡ sameAmount b balance
-    → (eqb d date && t) ≡ followsBy j date balance
+    → (leb d date && t) ≡ followsBy j date balance
 follows-after date balance p q = rw (p, q)
 
 module _ (j : List ℕ) (count : ℕ) (f : Form) (s : List ℕ) where

@@ -9,5 +9,7 @@ pub mod Freeing
 pub mod Using
 pub mod Listing
 pub mod Growing
+pub mod Former
+pub mod MonthEnds
 pub mod Paper
 pub mod One

@@ -30,7 +30,7 @@ use Rattle.journal_layout.specs.Chains.{heldAmong, judgementOf, ofAccoun
 use Rattle.journal_layout.specs.Layout.{isLength, linesOf, placeAmong, Journal}
 use Rattle.journal_layout.specs.Test.{soundIn, heldOf, usageOf, entryPlaceOf, listedPlaceOf, entryBodyOf}
 use Rattle.journal_layout.specs.Answers.{PaperUsage, paperOpening, paperUsage, PaperJudgement, paperJudgement, Later, Judged, UsedOf, Opens, EntryPlace, ListedPlace, EntryBody}
-use Rattle.journal_layout.proofs.Chain.{lastOf, last-account}
+use Rattle.journal_layout.proofs.Chain.{lastOf, last-account, last-snoc}
 use Rattle.journal_layout.proofs.Holding.{there-lines, later-value, judged-value}
 use Rattle.journal_layout.proofs.Exact.{journal-held, journal-sound, journal-list, sound-journal}
 use Rattle.journal_layout.proofs.Using.{used-is}
@@ -136,13 +136,9 @@ module _ {j : List ℕ} {ss : List Statement} (g : Journal j ss) {f : Form} {b :
     pub judged-first : ofAccount (s .key) ss ≡ [] → paperJudgement r ≡ record { held = false; first = true; date = 0; balance = pos 0 }
     judged-first o = ap paperJudgement new-is ∙ rw o
 
-    last-of : (l : Judgement) (before : List Statement) (h : Statement) → lastOf l (before ++ (h ∷ [])) ≡ J.After (h .new-date) (h .new-balance)
-    last-of l [] h = refl
-    last-of l (x ∷ xs) h = last-of (J.After (x .new-date) (x .new-balance)) xs h
-
     pub judged-after : (before : List Statement) (h : Statement) → ofAccount (s .key) ss ≡ before ++ (h ∷ [])
         → paperJudgement r ≡ record { held = false; first = false; date = h .new-date; balance = h .new-balance }
-    judged-after before h o = ap paperJudgement (new-is ∙ ap (lastOf J.First) o ∙ last-of J.First before h)
+    judged-after before h o = ap paperJudgement (new-is ∙ ap (lastOf J.First) o ∙ last-snoc J.First before h)
 
 -- by one more statement h
 module _ {last : Judgement} {f e : Form} {x b : List ℕ} {h s : Statement} (q : Reads (codingOf e) e x (h ∷ [])) (t : Reads (codingOf f) f b (s ∷ [])) {r : Judgement} (a : Later last e x b r) where

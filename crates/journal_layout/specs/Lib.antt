@@ -1,4 +1,5 @@
 pub mod Chains
 pub mod Layout
+pub mod Former
 pub mod Test
 pub mod Answers

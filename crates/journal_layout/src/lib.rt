@@ -70,7 +70,7 @@ pub fn follows(judgement: Judgement, date: u32, balance: i64) -> bool
         Judgement::After {
             date: d,
             balance: b,
-        } => (d == date) & records::rules::same_balance(b, balance),
+        } => (d <= date) & records::rules::same_balance(b, balance),
     }
 }
 

@@ -54,9 +54,11 @@ impl Held {
         })
     }
 
-    /// Whether this one begins where the other ends: same balance, same date.
+    /// Whether this one may come after the other: it begins with the balance that the other ends
+    /// with, on the day that the other ends or later. A bank may close a month on its last working
+    /// day and open the next one with its last day.
     pub fn follows(&self, last: &Held) -> bool {
-        self.old_balance == last.new_balance && self.old_date == last.new_date
+        self.old_balance == last.new_balance && self.old_date >= last.new_date
     }
 
     /// The number of body lines it takes.

@@ -5,7 +5,7 @@ use std::collections::{BTreeMap, BTreeSet};
 
 use crate::check::RECORD;
 use crate::delivery::{deliver, Delivered};
-use crate::journal::{held, last_of};
+use crate::journal::{held, Held};
 use crate::read::{statements, Refusal};
 
 /// Names with these ends belong to files that have not arrived whole.
@@ -26,7 +26,7 @@ pub enum Fate {
     Refused(Refusal),
     /// It waits on, for what it has to follow or for room.
     Left(Refusal),
-    /// It waits on, for the first statement of an account, and is not delivered.
+    /// It waits on, for an earlier statement in another file, and is not delivered.
     HeldBack,
 }
 
@@ -56,36 +56,63 @@ struct Waiting<'a> {
     name: &'a str,
     bytes: &'a [u8],
     line_end: u64,
-    /// Of each account in it the earliest statement's old balance date, of those of one date the
-    /// earliest new one beside it, by key; none for a refused file.
-    earliest: BTreeMap<Vec<u8>, (u32, u32)>,
+    /// What its statements are for, in file order; none for a refused file.
+    periods: Vec<Period>,
+}
+
+/// The account of a statement and the days that it goes from and to.
+#[derive(Clone, PartialEq)]
+struct Period {
+    key: Vec<u8>,
+    old_date: u32,
+    new_date: u32,
 }
 
 impl<'a> Waiting<'a> {
     fn new(file: &'a Incoming) -> Waiting<'a> {
         let line_end = found_line_end(&file.bytes);
-        let mut earliest = BTreeMap::new();
-        for statement in statements(line_end, &file.bytes).unwrap_or_default() {
-            let dates = (statement.head.old_date, statement.head.new_date);
-            let first = earliest.entry(statement.head.key.bytes()).or_insert(dates);
-            *first = dates.min(*first);
-        }
+        let statements = statements(line_end, &file.bytes).unwrap_or_default();
+        let periods = statements.iter().map(|statement| Period {
+            key: statement.head.key.bytes(),
+            old_date: statement.head.old_date,
+            new_date: statement.head.new_date,
+        });
         Waiting {
             name: &file.name,
             bytes: &file.bytes,
             line_end,
-            earliest,
+            periods: periods.collect(),
         }
     }
 
-    /// The earliest of all its dates, 0 where it has none.
+    /// The earliest of its old balance dates, 0 where it has none.
     fn date(&self) -> u32 {
-        self.earliest.values().map(|dates| dates.0).min().unwrap_or(0)
+        let dates = self.periods.iter().map(|period| period.old_date);
+        dates.min().unwrap_or(0)
+    }
+}
+
+impl Period {
+    fn of(held: &Held) -> Period {
+        Period {
+            key: held.key.clone(),
+            old_date: held.old_date,
+            new_date: held.new_date,
+        }
     }
 
-    /// Whether it has an earlier statement of that account than one of these dates.
-    fn is_before(&self, key: &[u8], dates: (u32, u32)) -> bool {
-        self.earliest.get(key).map_or(false, |&first| first < dates)
+    /// Whether this one has to be stored before the other, which is of the same account, lest it
+    /// never be. The account's last new date before the other is known, if there is one.
+    fn has_precedence(&self, other: &Period, last: Option<u32>) -> bool {
+        let is_earlier = (self.old_date, self.new_date) < (other.old_date, other.new_date);
+        is_earlier
+            && last.map_or(true, |last| {
+                // What begins before the last new date is too early already. What begins on it
+                // leaves no days out; only one that ends on it too comes before that.
+                let may_be_stored = self.old_date >= last;
+                let leaves_days_out = other.old_date > last;
+                may_be_stored && (leaves_days_out || self.new_date <= other.old_date)
+            })
     }
 }
 
@@ -138,7 +165,7 @@ fn round(
     let mut place = 0;
     while place < waiting.len() {
         let file = &waiting[place];
-        let fate = if is_held_back(file, waiting, journal) {
+        let fate = if is_held_back(waiting, place, journal) {
             Fate::HeldBack
         } else {
             fate(deliver(journal, file.line_end, file.bytes))
@@ -155,18 +182,34 @@ fn round(
     done
 }
 
-/// Whether an account of the file has an earlier statement in another that waits, and none in the
-/// journal. The file itself may stand among those that wait.
-fn is_held_back(file: &Waiting, waiting: &[Waiting], journal: &[u8]) -> bool {
-    let later = file
-        .earliest
-        .iter()
-        .filter(|(key, &dates)| waiting.iter().any(|other| other.is_before(key, dates)));
-    let keys: Vec<&Vec<u8>> = later.map(|(key, _)| key).collect();
-    !keys.is_empty() && {
-        let list = held(journal).expect("the journal of a night is sound");
-        keys.iter().any(|key| last_of(&list, key).is_none())
+/// Whether a statement of the file at that place has to wait for one in another file.
+fn is_held_back(waiting: &[Waiting], place: usize, journal: &[u8]) -> bool {
+    let list = held(journal).expect("the journal of a night is sound");
+    let mut latest = BTreeMap::new();
+    for statement in &list {
+        note(&mut latest, &statement.key, statement.new_date);
     }
+    // What has the days of one that is held, or stands before it in the file, is taken for that one.
+    let mut there: Vec<Period> = list.iter().map(Period::of).collect();
+    for period in &waiting[place].periods {
+        let last = latest.get(&period.key[..]).copied();
+        let others = (0..waiting.len()).filter(|&other| other != place);
+        let mut of_account = others
+            .flat_map(|other| &waiting[other].periods)
+            .filter(|other| other.key == period.key && !there.contains(other));
+        if of_account.any(|other| other.has_precedence(period, last)) {
+            return true;
+        }
+        note(&mut latest, &period.key, period.new_date);
+        there.push(period.clone());
+    }
+    false
+}
+
+/// Keeps the latest date of each account.
+fn note<'a>(latest: &mut BTreeMap<&'a [u8], u32>, key: &'a [u8], date: u32) {
+    let kept = latest.entry(key).or_insert(date);
+    *kept = date.max(*kept);
 }
 
 fn fate(answer: Result<Delivered, Refusal>) -> Fate {

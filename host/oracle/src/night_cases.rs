@@ -1,8 +1,8 @@
 //! Seeded generators of nights: a journal, files that wait, and what is known of both by how they
 //! were made.
 //!
-//! What becomes of the files is left to `night`. What is known of an account without it is the chain
-//! of statements that the journal holds in the end.
+//! What becomes of the files is left to `night`. What is known of an account without it are the
+//! statements that the journal holds in the end.
 
 mod again;
 mod beside;

@@ -6,8 +6,7 @@ mod series;
 pub use series::series;
 
 use crate::damage::{case, Case, Claim};
-use crate::record::{plain, put};
-use crate::valid::Draft;
+use crate::worked_account::{complement, draft, statement, with, Records};
 
 /// The two zeros, and other amounts around nothing.
 const CREDIT: &str = "0000000000000{";
@@ -20,9 +19,6 @@ const HUNDRED: &str = "0000000000010{";
 /// Old and new date of a statement.
 const FEBRUARY: [&str; 2] = ["310125", "280225"];
 const MARCH: [&str; 2] = ["280225", "310325"];
-
-/// Records without line ends.
-type Records = Vec<Vec<u8>>;
 
 /// The name of a file, what is expected of the check, the records.
 type Vector = (&'static str, Claim, Records);
@@ -44,15 +40,6 @@ pub fn kept() -> Vec<Case> {
 
 fn check((name, claim, records): &Vector, line_end: u64) -> Case {
     case(name, &draft(records, line_end), *claim)
-}
-
-fn draft(records: &[Vec<u8>], line_end: u64) -> Draft {
-    let mut draft = Draft {
-        line_end,
-        lines: Vec::new(),
-    };
-    draft.lines = records.iter().map(|record| draft.line(record)).collect();
-    draft
 }
 
 fn vectors() -> Vec<Vector> {
@@ -87,7 +74,7 @@ fn refused() -> Vec<Vector> {
     let [mut doubled, mut open, mut mmo] = [nil(), nil(), movement()];
     doubled.insert(0, doubled[0].clone());
     open.pop();
-    mmo.insert(2, complement("MMOUSD20000000000000}"));
+    mmo.insert(2, complement(FEBRUARY[0], "MMOUSD20000000000000}"));
     vec![
         (
             "N1-sum-wrong",
@@ -166,14 +153,6 @@ fn several() -> Vec<Vector> {
     ]
 }
 
-/// A statement of the worked account; its movements are booked on its old date.
-fn statement(dates: [&str; 2], old: &str, amounts: &[&str], new: &str) -> Records {
-    let mut records = vec![balance("01", dates[0], old)];
-    records.extend(amounts.iter().map(|amount| movement(dates[0], amount)));
-    records.push(balance("07", dates[1], new));
-    records
-}
-
 /// February without a movement.
 fn quiet(old: &str, new: &str) -> Records {
     statement(FEBRUARY, old, &[], new)
@@ -184,43 +163,13 @@ fn nothing([old, first, second, new]: [&str; 4]) -> Records {
     statement(FEBRUARY, old, &[first, second], new)
 }
 
-/// An 01 or 07.
-fn balance(code: &str, date: &str, amount: &str) -> Vec<u8> {
-    let mut record = plain(code, "0001234567A", date);
-    put(&mut record, 91, amount.as_bytes());
-    record
-}
-
-/// A 04, its free zones blank.
-fn movement(date: &str, amount: &str) -> Vec<u8> {
-    let mut record = balance("04", date, amount);
-    put(&mut record, 33, b"05");
-    put(&mut record, 43, date.as_bytes());
-    put(&mut record, 82, b"000000000");
-    record
-}
-
-/// A 05 of a movement of February, from its qualifier on.
-fn complement(text: &str) -> Vec<u8> {
-    let mut record = plain("05", "0001234567A", FEBRUARY[0]);
-    put(&mut record, 33, b"05");
-    put(&mut record, 46, text.as_bytes());
-    record
-}
-
-/// The same with bytes at a position of a record, whose index counts from 0.
-fn with(mut records: Records, record: usize, position: usize, bytes: &[u8]) -> Records {
-    put(&mut records[record], position, bytes);
-    records
-}
-
 /// Where `with_texts` puts its text, as `with` counts: twice in the label of the first movement, in
 /// its reference, and in its complement in the place of an amount.
 const TEXTS: [(usize, usize); 4] = [(1, 49), (1, 66), (1, 105), (2, 91)];
 
 /// A statement of February with a complement, and a text in all places for one.
 fn with_texts(mut records: Records, text: &str) -> Records {
-    records.insert(2, complement("LIBAVOIR"));
+    records.insert(2, complement(FEBRUARY[0], "LIBAVOIR"));
     let put = |records, (record, position)| with(records, record, position, text.as_bytes());
     TEXTS.into_iter().fold(records, put)
 }

@@ -1,6 +1,6 @@
 //! Sample files with readable content: an estate's account over three months, a loan beside it, an
-//! account at nil with either zero, and one file for each of the commonest refusals. They are fixed:
-//! no seed.
+//! account at nil with either zero, a month that ends on a Sunday, and one file for each of the
+//! commonest refusals. They are fixed: no seed.
 
 use std::fs;
 use std::io;
@@ -188,6 +188,35 @@ fn at_nil(zero: &[u8]) -> Records {
     records
 }
 
+/// The estate's November 2025, whose bank closes it on Friday the 28th.
+fn november() -> Records {
+    statement(&Month {
+        account: "00012345678",
+        old_date: "311025",
+        old_balance: 2_104_600,
+        new_date: "281125",
+        movements: vec![
+            movement("08", "101125", "PRLV EAU", -19_210),
+            receipt("181125", 1_386_000, "LIBNOISETTES RECOLTE 2025"),
+            movement("06", "281125", "VIREMENT SALAIRES", -415_000),
+        ],
+    })
+}
+
+/// Its December, which opens with Sunday the 30th.
+fn december() -> Records {
+    statement(&Month {
+        account: "00012345678",
+        old_date: "301125",
+        old_balance: 3_056_390,
+        new_date: "311225",
+        movements: vec![
+            movement("08", "101225", "PRLV EAU", -19_210),
+            movement("06", "311225", "VIREMENT SALAIRES", -415_000),
+        ],
+    })
+}
+
 /// Records with a line end after each.
 fn file(number: u64, records: &[Vec<u8>]) -> Vec<u8> {
     let lines = records
@@ -226,6 +255,11 @@ fn accepted() -> Vec<Sample> {
         sample("two-accounts.cfonb", CRLF, &interleaved),
         sample("estate-at-nil.cfonb", LF, &[at_nil(DEBIT_ZERO)]),
         sample("estate-at-nil-again.cfonb", LF, &[at_nil(CREDIT_ZERO)]),
+        sample(
+            "estate-sunday-month-end.cfonb",
+            LF,
+            &[november(), december()],
+        ),
     ]
 }
 

@@ -8,6 +8,7 @@ mod asking;
 mod at_nil;
 mod damaged;
 mod deliveries;
+mod gaps;
 mod large;
 mod limits;
 mod mixed;
@@ -17,16 +18,16 @@ mod script;
 
 pub use large::large_cases;
 pub use scenes::{scenes, Damage, Scene};
-pub use script::{Script, SeriesCase, TABLE};
+pub use script::{Script, SeriesCase, Write, TABLE};
 
 use std::collections::BTreeSet;
 use std::io;
 use std::path::Path;
 
 use crate::failure::failure;
-use crate::nil;
 use crate::rng::Rng;
 use crate::series::run;
+use crate::{month_ends, nil};
 use script::Make;
 
 /// Kept series are not longer than this.
@@ -34,7 +35,7 @@ pub const KEPT_SERIES: usize = 131_072;
 /// Nor are the journals in them longer than this.
 pub const KEPT_JOURNAL: usize = 65_536;
 /// The kinds, which come in turn.
-pub const KINDS: [(&str, Make); 35] = [
+pub const KINDS: [(&str, Make); 37] = [
     ("retries-with-other-line-ends", deliveries::retries),
     ("statement-in-two-files", deliveries::two_files),
     ("partial-overlaps", deliveries::overlaps),
@@ -70,6 +71,8 @@ pub const KINDS: [(&str, Make); 35] = [
     ("nil-follows-nil", at_nil::follows),
     ("zeros-in-texts", at_nil::texts),
     ("damaged-by-debit-zeros", damaged::debit_zeros),
+    ("month-ends", gaps::month_ends),
+    ("passed-over", gaps::passed_over),
 ];
 
 /// The series of that seed and index.
@@ -104,6 +107,11 @@ pub fn big_series(directory: &Path) -> io::Result<Vec<String>> {
 /// Writes the vectors of amounts of nothing to a directory. Gives the lines of their runs.
 pub fn nil_series(directory: &Path) -> io::Result<Vec<String>> {
     write_series(directory, &nil::series())
+}
+
+/// Writes the vectors of month ends to a directory. Gives the lines of their runs.
+pub fn month_end_series(directory: &Path) -> io::Result<Vec<String>> {
+    write_series(directory, &month_ends::series())
 }
 
 /// Names and kinds go to standard error, so that the lines are those of the runs alone.

@@ -1,14 +1,15 @@
 //! The kept cases of the proved programs: what they are held to is what is answered here. The last
-//! of them are the vectors of amounts of nothing.
+//! files are the vectors of amounts of nothing, the last series those and the vectors of month ends.
 
 use std::path::PathBuf;
 
 use oracle::check::{check, Answer};
-use oracle::nil;
 use oracle::read::{complement, head, movement, place};
-use oracle::series::run;
+use oracle::series::{operations, run, Operation};
+use oracle::series_cases::{KEPT_JOURNAL, KEPT_SERIES};
 use oracle::show::{complement_line, head_line, line, place_line, readings, row_line};
 use oracle::write::answer_text;
+use oracle::{month_ends, nil};
 
 /// A number of no statement, movement or complement.
 const NONE: u64 = 20_001;
@@ -114,9 +115,23 @@ fn last_files_are_the_vectors() {
 fn last_series_are_the_vectors() {
     let names = text("journal_cases", "args");
     let names: Vec<&str> = names.lines().collect();
-    let series = nil::series();
+    let series = [nil::series(), month_ends::series()].concat();
     let last = &names[names.len() - series.len()..];
     for (name, case) in last.iter().zip(&series) {
         assert!(data("journal_cases", name) == case.bytes, "{}", case.name);
+    }
+}
+
+/// Whatever made them, kept series and the journals in them are small.
+#[test]
+fn kept_series_are_small() {
+    for name in text("journal_cases", "args").lines() {
+        let series = data("journal_cases", name);
+        assert!(series.len() <= KEPT_SERIES, "{name}");
+        for operation in operations(&series).unwrap() {
+            if let Operation::Journal { length } = operation {
+                assert!(length <= KEPT_JOURNAL, "{name}");
+            }
+        }
     }
 }

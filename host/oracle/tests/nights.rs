@@ -17,11 +17,11 @@ use runs::{mistaken, oracle, path};
 use zeros::signed;
 
 const SEED: u64 = 31;
-const NIGHTS: usize = 300;
+const NIGHTS: usize = 400;
 const TABLE: usize = 7_680;
 
 /// What a night may try, and how often it does at least.
-const KINDS: [(&str, usize); 39] = [
+const KINDS: [(&str, usize); 43] = [
     ("accounts-together", 60),
     ("almost-ignored-name", 60),
     ("changed-month", 10),
@@ -33,6 +33,8 @@ const KINDS: [(&str, usize); 39] = [
     ("cut-inside-a-record", 30),
     ("damaged", 60),
     ("damaged-month", 20),
+    ("dormant-account", 15),
+    ("dormant-second-round", 10),
     ("empty-file", 20),
     ("empty-night", 15),
     ("entries-full", 20),
@@ -45,7 +47,9 @@ const KINDS: [(&str, usize); 39] = [
     ("ignored-name", 60),
     ("known-account", 60),
     ("lines-full", 20),
+    ("month-closes-early", 15),
     ("month-missing", 20),
+    ("month-passed-over", 20),
     ("new-account", 60),
     ("retry-of-held", 20),
     ("retry-other-line-end", 40),
@@ -89,8 +93,8 @@ fn held(journal: &[u8]) -> Vec<(&[u8], &[u8])> {
 
 /// What a chain holds in the end, given room: the records of each statement as they are stored.
 fn stored(chain: &Chain) -> Vec<Vec<u8>> {
-    let statements = &chain.statements[chain.end.clone()];
-    let bodies = statements.iter().map(|one| one.records.concat());
+    let statements = chain.end.iter().map(|&month| &chain.statements[month]);
+    let bodies = statements.map(|one| one.records.concat());
     bodies.map(|body| signed(0, &body, b'{')).collect()
 }
 
@@ -130,10 +134,12 @@ fn chains_are_held() {
     assert!(unknown < 50, "{unknown}");
 }
 
-/// How the chains end: whole, with less than comes, or not begun; in the first round or later.
+/// How the chains end: whole, with less than comes, with a month left out, or not begun; in the first
+/// round or later.
 #[test]
 fn chains_end_in_every_way() {
-    let (mut all, mut some, mut none, mut in_later_rounds) = (0, 0, 0, 0);
+    let (mut all, mut some, mut none) = (0, 0, 0);
+    let (mut with_a_gap, mut in_later_rounds) = (0, 0);
     for (case, night) in all_nights().filter(|(case, _)| case.enough) {
         for chain in &case.chains {
             match chain.end.len() {
@@ -141,11 +147,67 @@ fn chains_end_in_every_way() {
                 end if end < chain.statements.len() => some += 1,
                 _ => all += 1,
             }
+            let left_out = |two: &[usize]| two[0] + 1 < two[1];
+            with_a_gap += usize::from(chain.end.windows(2).any(left_out));
             in_later_rounds += usize::from(night.rounds.get(1) > Some(&0));
         }
     }
     assert!(all > 250 && some > 40 && none > 40, "{all} {some} {none}");
+    assert!(with_a_gap > 15, "{with_a_gap}");
     assert!(in_later_rounds > 100, "{in_later_rounds}");
+}
+
+/// The account, the old date and the new date of each statement that a journal holds.
+fn periods(journal: &[u8]) -> Vec<(Vec<u8>, u32, u32)> {
+    let periods = held(journal).into_iter().map(|(key, body)| {
+        let head = &statements(0, body).unwrap()[0].head;
+        (key.to_vec(), head.old_date, head.new_date)
+    });
+    periods.collect()
+}
+
+/// Whether a statement that begins on that day is too early for an account of which these are held.
+fn is_too_early(held: &[(Vec<u8>, u32, u32)], key: &[u8], date: u32) -> bool {
+    held.iter()
+        .any(|(other, _, new)| other == key && date < *new)
+}
+
+/// No file that is left has a statement that the night passed over: one that could have been stored
+/// before by its date, and no longer can. The exception is one that begins within the period of
+/// another that was stored: of the two only one can be. This is so of every account, whatever is
+/// known of it and however little room there is.
+#[test]
+fn nothing_that_waits_is_passed_over() {
+    let (mut still_wait, mut too_early, mut within) = (0, 0, 0);
+    for (case, night) in all_nights() {
+        let (before, after) = (periods(&case.journal), periods(&night.journal));
+        let stored = &after[before.len()..];
+        for file in &case.incoming {
+            let waits = |fate: &Fate| matches!(fate, Fate::Left(_) | Fate::HeldBack);
+            if !night.fates.get(&file.name).map_or(false, waits) {
+                continue;
+            }
+            for statement in statements(found_line_end(&file.bytes), &file.bytes).unwrap() {
+                let (key, date) = (statement.head.key.bytes(), statement.head.old_date);
+                let is_within = |(other, old, new): &(Vec<u8>, u32, u32)| {
+                    *other == key && (*old..*new).contains(&date)
+                };
+                if is_too_early(&before, &key, date) {
+                    too_early += 1;
+                } else if !is_too_early(&after, &key, date) {
+                    still_wait += 1;
+                } else {
+                    assert!(stored.iter().any(is_within), "{:?}", case.tries);
+                    within += 1;
+                }
+            }
+        }
+    }
+    assert!(
+        still_wait > 150 && too_early > 20,
+        "{still_wait} {too_early}"
+    );
+    assert!(within < 60, "{within}");
 }
 
 /// The earliest old balance date of each account in the files that are taken and accepted.

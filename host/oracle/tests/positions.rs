@@ -232,7 +232,7 @@ fn reread_days(reader: &mut Reader) {
 fn positions_are_read_back() {
     let path = path("generated.positions");
     let line = replay_positions(3, 1_000, &path).unwrap();
-    assert!(line.starts_with("positions: seed 3, 2727 fixed, 1000 generated: answered "));
+    assert!(line.starts_with("positions: seed 3, 2877 fixed, 1000 generated: answered "));
     let file = std::fs::read(&path).unwrap();
     let mut reader = Reader(&file);
     let mut journal = Vec::new();
@@ -270,6 +270,7 @@ fn positions_are_read_back() {
     ] {
         assert!(names.contains(&format!("P{point}")), "{point}");
     }
+    assert!(names.contains("M3"));
 }
 
 /// The command writes the same file, and mistakes in the call end with 2.

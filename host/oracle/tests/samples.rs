@@ -42,6 +42,7 @@ fn answers_of_the_check() {
         ("two-accounts.cfonb", "accepted 4 10 2"),
         ("estate-at-nil.cfonb", "accepted 2 2 1"),
         ("estate-at-nil-again.cfonb", "accepted 2 2 1"),
+        ("estate-sunday-month-end.cfonb", "accepted 2 5 1"),
         ("refused-02-cut.cfonb", "refused 2 0"),
         ("refused-04-line-end.cfonb", "refused 4 4"),
         ("refused-05-byte.cfonb", "refused 5 5"),
@@ -67,11 +68,10 @@ fn answers_of_the_check() {
 }
 
 /// The months one by one are held after all three at once, and the statements at nil after those
-/// with the other zero; a month that is missing is refused.
+/// with the other zero; November does not follow March.
 #[test]
 fn answers_of_delivery() {
-    let mut journal = vec![0; 7_680 + 120 * 100];
-    open(&mut journal).unwrap();
+    let mut journal = empty_journal();
     let mut answers = Vec::new();
     for sample in samples() {
         if sample.name.starts_with("estate") {
@@ -82,17 +82,50 @@ fn answers_of_delivery() {
     let once = delivered(0, 1);
     let months = [delivered(3, 0), once, once, once];
     let at_nil = [delivered(2, 0), delivered(0, 2)];
-    assert_eq!(answers, [&months[..], &at_nil].concat());
+    let november = [does_not_follow(1)];
+    assert_eq!(answers, [&months[..], &at_nil, &november].concat());
+}
+
+fn empty_journal() -> Vec<u8> {
+    let mut journal = vec![0; 7_680 + 120 * 100];
     open(&mut journal).unwrap();
-    let gap = samples().pop().unwrap();
-    let refusal = Refusal {
-        number: 22,
-        record: 8,
-    };
+    journal
+}
+
+fn does_not_follow(record: u64) -> Result<Delivered, Refusal> {
+    Err(Refusal { number: 22, record })
+}
+
+/// What a sample is answered with by an empty journal.
+fn answer_of_empty_journal(name: &str) -> Result<Delivered, Refusal> {
+    let samples = samples();
+    let sample = samples.iter().find(|sample| sample.name == name).unwrap();
+    deliver(&mut empty_journal(), sample.line_end, &sample.bytes)
+}
+
+/// January has seven records.
+#[test]
+fn answers_of_an_empty_journal() {
     assert_eq!(
-        deliver(&mut journal, gap.line_end, &gap.bytes),
-        Err(refusal)
+        answer_of_empty_journal("estate-sunday-month-end.cfonb"),
+        Ok(Delivered { stored: 2, held: 0 })
     );
+    assert_eq!(
+        answer_of_empty_journal("refused-22-month-missing.cfonb"),
+        does_not_follow(8)
+    );
+}
+
+/// November closes on a Friday, December opens with the Sunday, and has that balance.
+#[test]
+fn the_month_that_ends_on_a_sunday() {
+    let bytes = std::fs::read(kept().join("estate-sunday-month-end.cfonb")).unwrap();
+    let lines: Vec<&[u8]> = bytes.split(|&byte| byte == b'\n').collect();
+    let balance = |record: usize| (&lines[record - 1][34..40], &lines[record - 1][90..104]);
+    assert_eq!(balance(1), (&b"311025"[..], &b"0000000210460{"[..]));
+    assert_eq!(balance(6), (&b"281125"[..], &b"0000000305639{"[..]));
+    assert_eq!(balance(7), (&b"301125"[..], &b"0000000305639{"[..]));
+    assert_eq!(balance(10), (&b"311225"[..], &b"0000000262218{"[..]));
 }
 
 /// The two samples at nil differ in the sign of each zero, and in nothing else.

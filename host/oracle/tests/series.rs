@@ -5,6 +5,7 @@
 
 mod zeros;
 
+use std::cmp::Ordering;
 use std::collections::BTreeSet;
 
 use oracle::delivery::{deliver, newest, Delivered, Newest, Source};
@@ -55,6 +56,27 @@ fn key_of(records: &[u8]) -> Vec<u8> {
     [&records[2..7], &records[11..20], &records[21..32]].concat()
 }
 
+/// The day of a date DDMMYY as a number that grows from day to day.
+fn day(date: &[u8]) -> u32 {
+    let two = |first: usize| 10 * u32::from(date[first] - b'0') + u32::from(date[first + 1] - b'0');
+    let century = if two(4) < 80 { 20 } else { 19 };
+    ((100 * century + two(4)) * 100 + two(2)) * 100 + two(0)
+}
+
+/// How a statement opens behind another of its account: whether its 01 has the balance of the other's
+/// 07, and whether its day is earlier or later. As they are stored, equal balances have equal bytes.
+fn behind(next: &[u8], last: &[u8]) -> (bool, Ordering) {
+    let (opens, closes) = (&next[..120], &last[last.len() - 120..]);
+    let days = day(&opens[34..40]).cmp(&day(&closes[34..40]));
+    (opens[90..104] == closes[90..104], days)
+}
+
+/// The last statement of the same account, if there is one.
+fn last_of_account<'a>(list: &'a [Records], statement: &[u8]) -> Option<&'a Records> {
+    let key = key_of(statement);
+    list.iter().rev().find(|records| key_of(records) == key)
+}
+
 /// A file of these statements with another line end and this sign for zeros.
 fn rewritten(statements: &[Records], line_end: u64, sign: u8) -> Vec<u8> {
     let end: &[u8] = [&b""[..], b"\n", b"\r\n"][line_end as usize];
@@ -73,6 +95,10 @@ struct Watch {
     refusals: BTreeSet<u32>,
     deliveries: usize,
     answers: usize,
+    /// How many statements were stored that begin after the last one ends, and how many were refused
+    /// with 22: for an earlier day alone, for another balance alone, for both.
+    days_between: usize,
+    do_not_follow: [usize; 3],
 }
 
 impl Watch {
@@ -143,7 +169,7 @@ impl Watch {
         assert_eq!(line.starts_with("D refused 21 0 "), !sound);
         if line.starts_with("D refused ") {
             assert!(self.journal == before);
-            assert_refused_statement(&before, &line, line_end, file);
+            self.refused_statement(&before, &line, line_end, file);
             return;
         }
         self.deliveries += 1;
@@ -153,6 +179,11 @@ impl Watch {
         let mut stored = 0;
         for statement in &sent {
             if !list.contains(statement) {
+                if let Some(last) = last_of_account(&list, statement) {
+                    let (same_balance, days) = behind(statement, last);
+                    assert!(same_balance && days != Ordering::Less);
+                    self.days_between += usize::from(days == Ordering::Greater);
+                }
                 list.push(statement.clone());
                 stored += 1;
             }
@@ -164,6 +195,40 @@ impl Watch {
         self.clean = Some((self.journal.clone(), list));
     }
 
+    /// For 22, 23, 24: without the statement at that record and all behind it the file is delivered,
+    /// and then that statement alone has the same refusal, at its first record. It is none of those
+    /// that are held then. With 22 it has another balance than the last of its account, or an earlier
+    /// day; with 23 and 24 neither.
+    fn refused_statement(&mut self, journal: &[u8], line: &str, line_end: u64, file: &[u8]) {
+        let words: Vec<u64> = line
+            .split(' ')
+            .filter_map(|word| word.parse().ok())
+            .collect();
+        let (number, record) = (words[0] as u32, words[1]);
+        if !(22..=24).contains(&number) {
+            return;
+        }
+        let sent = in_file(line_end, file);
+        let index = (0..sent.len()).find(|&index| place_of(&sent, index) as u64 + 1 == record);
+        let (before, from_there) = sent.split_at(index.unwrap());
+        let mut copy = journal.to_vec();
+        assert!(deliver(&mut copy, 0, &before.concat()).is_ok());
+        let alone = Refusal { number, record: 1 };
+        assert_eq!(deliver(&mut copy, 0, &from_there[0]), Err(alone));
+        let list = in_journal(&copy);
+        assert!(!list.contains(&from_there[0]));
+        let last = last_of_account(&list, &from_there[0]);
+        let opens = last.map(|last| behind(&from_there[0], last));
+        let reason = match opens {
+            Some((true, Ordering::Less)) => 0,
+            Some((false, Ordering::Less)) => 2,
+            Some((false, _)) => 1,
+            Some((true, _)) | None => return assert_ne!(number, 22),
+        };
+        assert_eq!(number, 22);
+        self.do_not_follow[reason] += 1;
+    }
+
     /// The list so far. After pokes that left the journal sound it is what the body lines say.
     fn list_before(&self, journal: &[u8]) -> Vec<Records> {
         match &self.clean {
@@ -171,26 +236,6 @@ impl Watch {
             _ => in_journal(journal),
         }
     }
-}
-
-/// For 22, 23, 24: without the statement at that record and all behind it the file is delivered,
-/// and then that statement alone has the same refusal, at its first record.
-fn assert_refused_statement(journal: &[u8], line: &str, line_end: u64, file: &[u8]) {
-    let words: Vec<u64> = line
-        .split(' ')
-        .filter_map(|word| word.parse().ok())
-        .collect();
-    let (number, record) = (words[0] as u32, words[1]);
-    if !(22..=24).contains(&number) {
-        return;
-    }
-    let sent = in_file(line_end, file);
-    let index = (0..sent.len()).find(|&index| place_of(&sent, index) as u64 + 1 == record);
-    let (before, from_there) = sent.split_at(index.unwrap());
-    let mut copy = journal.to_vec();
-    assert!(deliver(&mut copy, 0, &before.concat()).is_ok());
-    let alone = Refusal { number, record: 1 };
-    assert_eq!(deliver(&mut copy, 0, &from_there[0]), Err(alone));
 }
 
 /// A journal is sound if and only if delivering what stands in its lines, one by one, to a fresh
@@ -302,6 +347,12 @@ fn generated_series_keep_the_rules() {
     assert_eq!(watch.refusals, expected);
     println!("{} deliveries, {} answers", watch.deliveries, watch.answers);
     assert!(watch.deliveries > 900);
+    let (days_between, do_not_follow) = (watch.days_between, watch.do_not_follow);
+    assert!(days_between > 150, "{days_between}");
+    assert!(
+        do_not_follow.iter().all(|&count| count > 50),
+        "{do_not_follow:?}"
+    );
 }
 
 #[test]

@@ -75,17 +75,20 @@ fn some_accounts(rng: &mut Rng, centre: u64) -> Vec<Account> {
     keys.into_iter().map(account).collect()
 }
 
-/// Up to ten statements in turn, of any of the accounts.
+/// Up to ten statements in turn, of any of the accounts. Some begin days after the one before.
 fn some_statements(rng: &mut Rng, mut accounts: Vec<Account>, centre: u64) -> Vec<Statement> {
     let count = rng.below(11);
     let statement = |_| {
         let index = rng.index(accounts.len());
         let account = &mut accounts[index];
+        if rng.one_in(3) {
+            account.pause(1 + rng.below(3));
+        }
         let next = match rng.below(8) {
             0 => account.next_quiet(rng),
             1 => account.next_of(rng, 20),
             2 => account.next_to_nil(rng),
-            3 if account.last.value == 0 => account.next_at_nil(rng),
+            3 if account.last.value == 0 => account.next_unchanged(rng),
             _ => account.next(rng),
         };
         revalued(rng, next, centre)

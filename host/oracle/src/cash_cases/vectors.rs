@@ -4,8 +4,8 @@ use super::questions::{Book, Question, Span};
 use super::spans::no_days;
 use super::statements::{journal_of, on, statement, worked_key, Movement};
 use crate::cash::MOST_DAYS;
-use crate::journal::TABLE;
-use crate::record::{date_number, write_date, DAYS, DEBIT_ZERO, RECORD};
+use crate::journal::{ENTRY, TABLE};
+use crate::record::{date_number, put, write_date, DAYS, DEBIT_ZERO, RECORD};
 use crate::rng::Rng;
 use crate::series_cases::accounts::{apart, twin, with_zeros, ZONES};
 use crate::valid::{Balance, Statement};
@@ -29,6 +29,9 @@ pub fn vectors(rng: &mut Rng) -> Vec<Book> {
         at_nil(rng, Some(2)),
         at_nil(rng, Some(4)),
         at_nil(rng, Some(5)),
+        over_a_month_end(rng, "301125"),
+        over_a_month_end(rng, "281125"),
+        over_a_month_end(rng, "271125"),
         numbers(rng),
         whole_calendar(rng),
         days(),
@@ -238,6 +241,27 @@ fn at_nil(rng: &mut Rng, debit_zero: Option<usize>) -> Book {
     let key = worked_key().bytes();
     book.position(&name, &key, (20_250_204, 20_250_208), 5);
     book.position(&name, &key, (20_250_331, 20_250_401), 3);
+    book.faults_at_once(&name, [&key, &[b'0'; 25]], [(DAY, DAY + 1), (DAY + 1, DAY)]);
+    book.add(&name, Question::Balances((0..=3).collect()));
+    book
+}
+
+/// M1, M3: a November that closes on Friday, and a December whose first movement is valued on the
+/// Saturday after it. The December opens on that Friday or later; a day earlier, the journal is not
+/// sound.
+fn over_a_month_end(rng: &mut Rng, opens: &str) -> Book {
+    let november = worked(rng, ("311025", 100), "281125", &[valued(20, "281125")]);
+    let movements = [booked(-30, "301125", "291125"), valued(5, "011225")];
+    let december = worked(rng, ("301125", 120), "311225", &movements);
+    let mut book = Book::new(journal_of(&[november, december], 1));
+    // The old date in the second entry and in its body, which has three records before it.
+    for place in [ENTRY + 25, TABLE + 3 * RECORD + 34] {
+        put(&mut book.journal, place + 1, opens.as_bytes());
+    }
+    let name = format!("M3-opens-{opens}");
+    let key = worked_key().bytes();
+    book.position(&name, &key, (20_251_127, 20_251_202), 6);
+    book.position(&name, &key, (20_251_129, 20_251_129), 1);
     book.faults_at_once(&name, [&key, &[b'0'; 25]], [(DAY, DAY + 1), (DAY + 1, DAY)]);
     book.add(&name, Question::Balances((0..=3).collect()));
     book

@@ -37,6 +37,7 @@ fn other_line_end(rng: &mut Rng, plan: &mut Plan) {
 }
 
 /// Some months of an account that are stored anyway in one file, whichever files they stand in else.
+/// They stand one after another in the journal.
 fn overlap(rng: &mut Rng, plan: &mut Plan) {
     let long = |index: &usize| plan.chains[*index].end.len() > 1;
     let places: Vec<usize> = (0..plan.chains.len()).filter(long).collect();
@@ -44,11 +45,14 @@ fn overlap(rng: &mut Rng, plan: &mut Plan) {
         return;
     }
     let chain = &plan.chains[rng.pick(&places)];
-    let all = &chain.statements[chain.end.clone()];
+    let all = &chain.end;
     let first = rng.index(all.len() - 1);
     let end = first + 2 + rng.index(all.len() - first - 1);
     let story = Some(chain.story);
-    let statements = all[first..end.min(first + 3)].to_vec();
+    let months = all[first..end.min(first + 3)].iter();
+    let statements = months
+        .map(|&month| chain.statements[month].clone())
+        .collect();
     plan.send(rng, statements, story);
     plan.tries("retry-overlap");
 }

@@ -59,8 +59,9 @@ fn ignored(rng: &mut Rng, plan: &mut Plan) {
 /// A file of the month that follows the last one that is held of an account in the end.
 fn month_after(rng: &mut Rng, plan: &Plan) -> Vec<u8> {
     let chain = &plan.chains[rng.index(plan.chains.len())];
-    match chain.statements[chain.end.clone()].last() {
-        Some(last) => {
+    match chain.end.last() {
+        Some(&last) => {
+            let last = &chain.statements[last];
             let next = next_month(rng, &chain.key, last.new, last.new.day + 30, false);
             file(rng.below(3), &[&next])
         }

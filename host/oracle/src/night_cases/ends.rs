@@ -1,10 +1,8 @@
 //! How accounts end, by the files alone.
 //!
-//! Given room it does not matter in which order files come. An account of which nothing is held
-//! begins with the earliest month that any file has of it; a file is stored as soon as each of its
-//! statements is held or follows.
-
-use std::ops::Range;
+//! Given room it does not matter in which order files come. A file is stored as soon as each of its
+//! statements is held or follows, and none leaves out a month that another file still has. So an
+//! account of which nothing is held begins with the earliest month that any file has of it.
 
 use super::plan::{Chain, Letter};
 
@@ -12,26 +10,23 @@ use super::plan::{Chain, Letter};
 type Month = (usize, usize);
 
 /// The statements of each chain that the journal holds in the end.
-pub fn ends(chains: &[Chain], letters: &[Letter]) -> Vec<Range<usize>> {
-    let files: Vec<Vec<Month>> = letters.iter().map(|one| months(chains, one)).collect();
-    let mut ends: Vec<Range<usize>> = (0..chains.len())
-        .map(|chain| match chains[chain].held {
-            0 => {
-                let first = first_of(chain, &files);
-                first..first
+pub fn ends<'a>(chains: &[Chain], letters: impl Iterator<Item = &'a Letter>) -> Vec<Vec<usize>> {
+    let mut waiting: Vec<Vec<Month>> = letters.map(|one| months(chains, one)).collect();
+    let before = chains.iter().map(|chain| (0..chain.held).collect());
+    let mut held: Vec<Vec<usize>> = before.collect();
+    let mut place = 0;
+    while place < waiting.len() {
+        match after(chains, &held, &waiting, place) {
+            Some(after) => {
+                // Others may come now, those in front too.
+                held = after;
+                waiting.remove(place);
+                place = 0;
             }
-            held => 0..held,
-        })
-        .collect();
-    loop {
-        let before = ends.clone();
-        for file in &files {
-            ends = after(&ends, file).unwrap_or(ends);
-        }
-        if ends == before {
-            return ends;
+            None => place += 1,
         }
     }
+    held
 }
 
 /// What a letter has of the chains; statements of other accounts are left out.
@@ -46,22 +41,34 @@ fn months(chains: &[Chain], letter: &Letter) -> Vec<Month> {
     places.collect()
 }
 
-/// The earliest month of a chain in any file, 0 where none has one.
-fn first_of(chain: usize, files: &[Vec<Month>]) -> usize {
-    let found = files.iter().flatten().filter(|(other, _)| *other == chain);
-    found.map(|&(_, month)| month).min().unwrap_or(0)
-}
-
-/// What is held after a file of which each statement is held or follows.
-fn after(ends: &[Range<usize>], file: &[Month]) -> Option<Vec<Range<usize>>> {
-    let mut after = ends.to_vec();
-    for &(chain, month) in file {
-        let held = &mut after[chain];
-        if month == held.end {
-            held.end += 1;
-        } else if !held.contains(&month) {
+/// What is held after the file at that place, if it can be stored now.
+fn after(
+    chains: &[Chain],
+    held: &[Vec<usize>],
+    waiting: &[Vec<Month>],
+    place: usize,
+) -> Option<Vec<Vec<usize>>> {
+    let mut after = held.to_vec();
+    for &(chain, month) in &waiting[place] {
+        let row = &mut after[chain];
+        if row.contains(&month) {
+            continue;
+        }
+        let last = row.last().copied();
+        let left_out = last.map_or(0, |last| last + 1)..month;
+        let others = (0..waiting.len()).filter(|&other| other != place);
+        let mut months = others.flat_map(|other| &waiting[other]);
+        let still_come = months.any(|(other, month)| *other == chain && left_out.contains(month));
+        if still_come || !last.map_or(true, |last| follows(&chains[chain], month, last)) {
             return None;
         }
+        row.push(month);
     }
     Some(after)
+}
+
+/// Whether a month of a chain may come behind another: it is later, and has its balance.
+fn follows(chain: &Chain, month: usize, last: usize) -> bool {
+    let (old, new) = (chain.statements[month].old, chain.statements[last].new);
+    month > last && old.value == new.value
 }

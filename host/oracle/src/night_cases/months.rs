@@ -1,5 +1,7 @@
 //! Months in a row, and statements for them.
 
+use std::ops::Range;
+
 use crate::cash_cases::statements::on;
 use crate::rng::Rng;
 use crate::series_cases::accounts::cancelling;
@@ -11,6 +13,40 @@ const ENDS: usize = 10;
 /// The last days of months in a row: month m goes from end m to end m + 1.
 #[derive(Clone)]
 pub struct Months(Vec<u64>);
+
+/// What the statements of an account are like.
+#[derive(Clone, Copy)]
+pub struct Habits {
+    /// Each month sums to nothing, so that each follows each earlier one.
+    pub dormant: bool,
+    /// A month closes one to three days before the next one opens.
+    pub closes_early: bool,
+}
+
+impl Habits {
+    pub fn some(rng: &mut Rng) -> Habits {
+        Habits {
+            dormant: rng.one_in(3),
+            closes_early: rng.one_in(5),
+        }
+    }
+
+    /// Those of an account whose balance stays.
+    pub fn dormant(rng: &mut Rng) -> Habits {
+        Habits {
+            dormant: true,
+            ..Habits::some(rng)
+        }
+    }
+
+    /// Those of an account whose balance changes, but for quiet months.
+    pub fn busy(rng: &mut Rng) -> Habits {
+        Habits {
+            dormant: false,
+            ..Habits::some(rng)
+        }
+    }
+}
 
 impl Months {
     /// From 1981 to 2061, often over the turn of the century.
@@ -29,27 +65,38 @@ impl Months {
         self.0[ENDS - 1]
     }
 
-    /// Statements of an account for months in a row, each beginning as the one before ends.
-    pub fn statements(&self, rng: &mut Rng, key: &Key, from: usize, to: usize) -> Vec<Statement> {
-        // Some accounts are kept at nil, so that their zeros can come with either sign.
-        let at_nil = rng.one_in(3);
-        let mut last = Balance {
-            day: self.0[from],
-            value: if at_nil { 0 } else { amount(rng) },
-        };
+    /// Statements of an account for months in a row, each beginning with the balance of the one
+    /// before.
+    pub fn statements(
+        &self,
+        rng: &mut Rng,
+        key: &Key,
+        range: Range<usize>,
+        habits: Habits,
+    ) -> Vec<Statement> {
+        // Most dormant accounts are at nil, so that their zeros can come with either sign.
+        let at_nil = habits.dormant && !rng.one_in(4);
+        let mut value = if at_nil { 0 } else { amount(rng) };
         let mut statements = Vec::new();
-        for month in from..to {
-            let next = next_month(rng, key, last, self.0[month + 1], at_nil);
-            last = next.new;
+        for month in range {
+            let day = self.0[month];
+            let early = if habits.closes_early {
+                1 + rng.below(3)
+            } else {
+                0
+            };
+            let last_day = self.0[month + 1] - early;
+            let next = next_month(rng, key, Balance { day, value }, last_day, habits.dormant);
+            value = next.new.value;
             statements.push(next);
         }
         statements
     }
 }
 
-/// A statement of 2 to 8 records, now and then more.
-pub fn next_month(rng: &mut Rng, key: &Key, old: Balance, day: u64, at_nil: bool) -> Statement {
-    if at_nil {
+/// A statement of 2 to 8 records, now and then more. That of a dormant account sums to nothing.
+pub fn next_month(rng: &mut Rng, key: &Key, old: Balance, day: u64, dormant: bool) -> Statement {
+    if dormant {
         let movements = cancelling(rng);
         return statement_of(rng, key, old, day, &movements);
     }

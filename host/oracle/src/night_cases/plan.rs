@@ -3,7 +3,7 @@
 use std::collections::BTreeSet;
 use std::ops::Range;
 
-use super::months::Months;
+use super::months::{Habits, Months};
 use super::names::{almost_ignored, new_name};
 use crate::cash_cases::statements::on;
 use crate::rng::Rng;
@@ -32,8 +32,9 @@ pub struct Chain {
     pub from: usize,
     /// The story it belongs to. Accounts of one story stand in the same files.
     pub story: usize,
-    /// Those that the journal holds in the end, given room, as far as it is known.
-    pub end: Range<usize>,
+    /// Those that the journal holds in the end, given room, as far as it is known: their indices in
+    /// the row, from 0.
+    pub end: Vec<usize>,
     pub known: Known,
 }
 
@@ -110,8 +111,22 @@ impl Plan {
         range: Range<usize>,
         held: usize,
     ) -> usize {
+        let habits = Habits::some(rng);
+        self.chain_of(rng, months, range, held, habits)
+    }
+
+    /// The same with given habits.
+    pub fn chain_of(
+        &mut self,
+        rng: &mut Rng,
+        months: &Months,
+        range: Range<usize>,
+        held: usize,
+        habits: Habits,
+    ) -> usize {
         let key = self.new_key(rng);
-        let statements = months.statements(rng, &key, range.start, range.end);
+        let from = range.start;
+        let statements = months.statements(rng, &key, range, habits);
         let turn = on("010100");
         if statements
             .iter()
@@ -120,11 +135,11 @@ impl Plan {
             self.tries("turn-of-century");
         }
         self.chains.push(Chain {
-            end: 0..statements.len(),
+            end: (0..statements.len()).collect(),
             statements,
             key,
             held,
-            from: range.start,
+            from,
             story: self.stories,
             known: Known::ByStory,
         });
@@ -147,9 +162,25 @@ impl Plan {
         }
     }
 
-    /// The journal holds so many of an account's statements in the end.
+    /// The journal holds so many of an account's statements in the end, the first ones.
     pub fn ends_after(&mut self, chain: usize, statements: usize) {
-        self.chains[chain].end = 0..statements;
+        self.chains[chain].end = (0..statements).collect();
+    }
+
+    /// A month of an account does not come. Where it sums to nothing the next one follows without
+    /// it, and the journal holds all but that month in the end; else what is before it. Gives
+    /// whether it is passed over.
+    pub fn leave_out(&mut self, chain: usize, month: usize) -> bool {
+        let statement = self.month(chain, month);
+        let missing = month - self.chains[chain].from;
+        let passed_over = statement.old.value == statement.new.value;
+        if passed_over {
+            self.tries("month-passed-over");
+            self.chains[chain].end.retain(|&held| held != missing);
+        } else {
+            self.ends_after(chain, missing);
+        }
+        passed_over
     }
 
     /// The statement of an account for a month.

@@ -52,10 +52,12 @@ pub fn end(rng: &mut Rng, mut plan: Plan) -> NightCase {
     finish(plan, room, journal_of(&list, spare), list.len())
 }
 
-/// How each account ends. What its story tells is what follows from the files.
+/// How each account ends. What its story tells is what follows from the files, in any order.
 fn see_ends(plan: &mut Plan) {
-    let ends = ends(&plan.chains, &plan.letters);
-    for (chain, end) in plan.chains.iter_mut().zip(ends) {
+    let by_files = ends(&plan.chains, plan.letters.iter());
+    let backwards = ends(&plan.chains, plan.letters.iter().rev());
+    assert_eq!(by_files, backwards);
+    for (chain, end) in plan.chains.iter_mut().zip(by_files) {
         assert!(chain.known != Known::ByStory || chain.end == end);
         chain.end = end;
     }
@@ -68,10 +70,11 @@ fn too_few(rng: &mut Rng, needed: usize) -> usize {
 
 /// The statements that come and are not held.
 fn coming(chains: &[Chain]) -> Vec<Statement> {
-    let coming = chains
-        .iter()
-        .flat_map(|chain| &chain.statements[chain.end.clone()][chain.held..]);
-    coming.cloned().collect()
+    let coming = chains.iter().flat_map(|chain| {
+        let months = chain.end.iter().filter(move |&&month| month >= chain.held);
+        months.map(move |&month| chain.statements[month].clone())
+    });
+    coming.collect()
 }
 
 fn lines_of(statements: &[Statement]) -> usize {

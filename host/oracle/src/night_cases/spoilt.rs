@@ -1,6 +1,6 @@
 //! Files that were cut on their way, and damaged ones.
 
-use super::months::Months;
+use super::months::{Habits, Months};
 use super::plan::{Known, Letter, Plan};
 use crate::check::{check, Answer};
 use crate::damage::{pick, Case, Recipe};
@@ -136,7 +136,8 @@ fn wrong_line_end(rng: &mut Rng) -> Vec<u8> {
 fn strange_months(rng: &mut Rng) -> Vec<Statement> {
     let key = key(rng);
     let months = 1 + rng.index(3);
-    Months::new(rng).statements(rng, &key, 0, months)
+    let habits = Habits::some(rng);
+    Months::new(rng).statements(rng, &key, 0..months, habits)
 }
 
 fn strange_draft(rng: &mut Rng) -> Draft {

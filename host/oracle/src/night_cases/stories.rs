@@ -1,5 +1,6 @@
 //! Accounts whose statements come in the night.
 
+use super::months::Habits;
 use super::plan::Plan;
 use crate::rng::Rng;
 use crate::valid::Statement;
@@ -9,22 +10,27 @@ use crate::write::shuffle;
 type Make = fn(&mut Rng, &mut Plan);
 
 /// The stories, how many accounts they have at most, and how common they are.
-const STORIES: [(Make, usize, usize); 10] = [
-    (known, 1, 6),
+const STORIES: [(Make, usize, usize); 14] = [
+    (known, 1, 8),
     (new, 1, 4),
+    (dormant, 1, 3),
+    (closing_early, 1, 3),
     (together, 3, 6),
     (astride, 3, 6),
+    (dormant_astride, 3, 3),
     (behind, 3, 3),
-    (stuck, 2, 2),
+    (stuck, 2, 3),
     (crossed, 2, 1),
     (gap_inside, 1, 1),
-    (missing, 1, 3),
+    (missing, 1, 4),
+    (dormant_missing, 1, 2),
     (backwards, 1, 3),
 ];
 
 /// Those of a first night.
-const FIRST_STORIES: [(Make, usize, usize); 6] = [
+const FIRST_STORIES: [(Make, usize, usize); 7] = [
     (new, 1, 5),
+    (closing_early, 1, 2),
     (together, 3, 6),
     (behind, 3, 3),
     (crossed, 2, 1),
@@ -60,8 +66,9 @@ fn some_story(rng: &mut Rng, first_night: bool) -> (Make, usize) {
 fn known(rng: &mut Rng, plan: &mut Plan) {
     plan.tries("known-account");
     let held = 1 + rng.index(3);
+    let habits = Habits::some(rng);
     let first = plan.letters.len();
-    one_account(rng, plan, held);
+    one_account(rng, plan, held, habits);
     if rng.one_in(2) {
         plan.name_backwards(first);
     }
@@ -70,16 +77,42 @@ fn known(rng: &mut Rng, plan: &mut Plan) {
 /// An account of which nothing is held. Its later months have the names that come first.
 fn new(rng: &mut Rng, plan: &mut Plan) {
     plan.tries("new-account");
+    let habits = Habits::some(rng);
+    later_names_first(rng, plan, 0, habits);
+}
+
+/// An account of which some months are held and whose balance stays, so that each month follows each
+/// earlier one. The later months have the names that come first.
+fn dormant(rng: &mut Rng, plan: &mut Plan) {
+    plan.tries("dormant-account");
+    let held = 1 + rng.index(3);
+    let habits = Habits::dormant(rng);
+    later_names_first(rng, plan, held, habits);
+}
+
+/// An account whose months close days before the next one opens, known or new.
+fn closing_early(rng: &mut Rng, plan: &mut Plan) {
+    plan.tries("month-closes-early");
+    let held = plan.some_held(rng, 2);
+    let habits = Habits {
+        closes_early: true,
+        ..Habits::some(rng)
+    };
+    later_names_first(rng, plan, held, habits);
+}
+
+/// The months of one account, the last name for the first.
+fn later_names_first(rng: &mut Rng, plan: &mut Plan, held: usize, habits: Habits) {
     let first = plan.letters.len();
-    one_account(rng, plan, 0);
+    one_account(rng, plan, held, habits);
     plan.name_backwards(first);
 }
 
 /// Two to four months of an account come, in files of one month or of several.
-fn one_account(rng: &mut Rng, plan: &mut Plan, held: usize) {
+fn one_account(rng: &mut Rng, plan: &mut Plan, held: usize, habits: Habits) {
     let months = plan.months(rng);
     let end = held + 2 + rng.index(3);
-    let chain = plan.chain(rng, &months, 0..end, held);
+    let chain = plan.chain_of(rng, &months, 0..end, held, habits);
     let mut month = held;
     while month < end {
         let count = match rng.below(4) {
@@ -128,7 +161,14 @@ fn together(rng: &mut Rng, plan: &mut Plan) {
 fn astride(rng: &mut Rng, plan: &mut Plan) {
     let files = 2 + rng.index(2);
     plan.tries(["second-round", "third-round"][files - 2]);
-    in_steps(rng, plan, files, true);
+    in_steps(rng, plan, files, true, Habits::some);
+}
+
+/// The same with accounts whose balance stays: the late month would follow without the one between.
+fn dormant_astride(rng: &mut Rng, plan: &mut Plan) {
+    plan.tries("dormant-second-round");
+    let files = 2 + rng.index(2);
+    in_steps(rng, plan, files, true, Habits::dormant);
 }
 
 /// The same with other accounts of which nothing is held: the first month of each is the one that
@@ -136,13 +176,19 @@ fn astride(rng: &mut Rng, plan: &mut Plan) {
 fn behind(rng: &mut Rng, plan: &mut Plan) {
     plan.tries("first-month-behind");
     let files = 2 + rng.index(2);
-    in_steps(rng, plan, files, false);
+    in_steps(rng, plan, files, false, Habits::some);
 }
 
 /// Files one after another, each with a month of its own account and the month after the next one's
 /// own. Of the first account months are held, unless it is a first night; of the others where they
 /// are known.
-fn in_steps(rng: &mut Rng, plan: &mut Plan, files: usize, known: bool) {
+fn in_steps(
+    rng: &mut Rng,
+    plan: &mut Plan,
+    files: usize,
+    known: bool,
+    some_habits: fn(&mut Rng) -> Habits,
+) {
     let months = plan.months(rng);
     let first = 1 + rng.index(2);
     let mut chains = Vec::new();
@@ -151,7 +197,8 @@ fn in_steps(rng: &mut Rng, plan: &mut Plan, files: usize, known: bool) {
         let end = own + if step == 0 { 1 } else { 2 };
         let some_held = known || (step == 0 && !plan.first_night);
         let (begin, held) = if some_held { (0, own) } else { (own, 0) };
-        chains.push(plan.chain(rng, &months, begin..end, held));
+        let habits = some_habits(rng);
+        chains.push(plan.chain_of(rng, &months, begin..end, held, habits));
     }
     for step in 0..files {
         let mut statements = vec![plan.month(chains[step], first + step)];
@@ -170,9 +217,8 @@ fn send_in_any_order(rng: &mut Rng, plan: &mut Plan, mut statements: Vec<Stateme
 
 /// The first month of an account of which nothing is held stands in a file that waits for a month of
 /// another account, and that does not come. So the account does not begin, though others of its
-/// months come.
+/// months come; unless the month that does not come is passed over.
 fn stuck(rng: &mut Rng, plan: &mut Plan) {
-    plan.tries("first-month-stuck");
     let months = plan.months(rng);
     let held = 1 + rng.index(2);
     let gap = held + rng.index(2);
@@ -188,29 +234,33 @@ fn stuck(rng: &mut Rng, plan: &mut Plan) {
         let statement = plan.month(new, month);
         plan.send(rng, vec![statement], Some(plan.stories));
     }
-    plan.ends_after(known, gap);
-    plan.ends_after(new, 0);
+    let passed_over = plan.leave_out(known, gap);
+    if !passed_over {
+        plan.tries("first-month-stuck");
+        plan.ends_after(new, 0);
+    }
 }
 
-/// Two files of two accounts of which nothing is held. Each has the first month of the one and a
-/// later month of the other, so that each waits for the other.
+/// Two files of two accounts. Each has the next month of the one and a later month of the other, so
+/// that each waits for the other.
 fn crossed(rng: &mut Rng, plan: &mut Plan) {
     plan.tries("hold-each-other");
     let months = plan.months(rng);
     let first = rng.index(3);
-    let one = plan.chain(rng, &months, first..first + 2, 0);
-    let other = plan.chain(rng, &months, first + 1..first + 3, 0);
+    let [one_held, other_held] = [0, 1].map(|more| plan.some_held(rng, first + more));
+    let one = plan.chain(rng, &months, first - one_held..first + 2, one_held);
+    let begin = first + 1 - other_held;
+    let other = plan.chain(rng, &months, begin..first + 3, other_held);
     let early = vec![plan.month(one, first), plan.month(other, first + 2)];
     let late = vec![plan.month(one, first + 1), plan.month(other, first + 1)];
     for statements in [early, late] {
         send_in_any_order(rng, plan, statements);
     }
-    plan.ends_after(one, 0);
-    plan.ends_after(other, 0);
+    plan.ends_after(one, one_held);
+    plan.ends_after(other, other_held);
 }
 
-/// A file has two months of an account, another the month between. Neither is stored, and where
-/// nothing of the account is held the second is not even delivered.
+/// A file has two months of an account, another the month between. Each waits for the other.
 fn gap_inside(rng: &mut Rng, plan: &mut Plan) {
     plan.tries("gap-inside");
     let months = plan.months(rng);
@@ -224,21 +274,35 @@ fn gap_inside(rng: &mut Rng, plan: &mut Plan) {
 }
 
 /// An account of which some months are held: one that follows does not come, later ones do. What
-/// comes before the gap is stored.
+/// comes before the gap is stored; what comes after it where the gap is passed over.
 fn missing(rng: &mut Rng, plan: &mut Plan) {
-    plan.tries("month-missing");
+    let habits = Habits::busy(rng);
+    without_a_month(rng, plan, habits);
+}
+
+/// The same with an account whose balance stays: the gap is passed over.
+fn dormant_missing(rng: &mut Rng, plan: &mut Plan) {
+    let habits = Habits::dormant(rng);
+    without_a_month(rng, plan, habits);
+}
+
+/// The months of one account but one, the last name for the first.
+fn without_a_month(rng: &mut Rng, plan: &mut Plan, habits: Habits) {
     let months = plan.months(rng);
     let held = 1 + rng.index(3);
     let gap = held + rng.index(2);
     let end = gap + 2 + rng.index(2);
-    let chain = plan.chain(rng, &months, 0..end, held);
+    let chain = plan.chain_of(rng, &months, 0..end, held, habits);
     let first = plan.letters.len();
     for month in (held..end).filter(|&month| month != gap) {
         let statement = plan.month(chain, month);
         plan.send(rng, vec![statement], Some(plan.stories));
     }
     plan.name_backwards(first);
-    plan.ends_after(chain, gap);
+    let passed_over = plan.leave_out(chain, gap);
+    if !passed_over {
+        plan.tries("month-missing");
+    }
 }
 
 /// A file has a month before the one that it follows. Where both come in other files too it is held

@@ -1,15 +1,10 @@
 //! The vectors on a journal.
 
-use super::{draft, nothing, quiet, statement, with, with_texts, Records};
+use super::{nothing, quiet, with_texts};
 use super::{CREDIT, DEBIT, FEBRUARY, MARCH, MINUS_SEVEN, MINUS_TEN, SEVEN, TEXTS};
 use crate::record::RECORD;
-use crate::series_cases::{Script, SeriesCase, TABLE};
-
-/// The worked account.
-const KEY: &[u8] = b"1234500010EUR20001234567A";
-
-/// Writes a series.
-type Write = fn(&mut Script);
+use crate::series_cases::{Script, SeriesCase, Write, TABLE};
+use crate::worked_account::{file, statement, with, Records, KEY};
 
 const SERIES: [(&str, Write); 6] = [
     ("N3-texts", texts),
@@ -22,24 +17,15 @@ const SERIES: [(&str, Write); 6] = [
 
 /// All series.
 pub fn series() -> Vec<SeriesCase> {
-    let case = |(name, write): (&'static str, Write)| {
-        let mut script = Script::default();
-        write(&mut script);
-        SeriesCase {
-            name,
-            bytes: script.bytes,
-        }
-    };
-    SERIES.into_iter().map(case).collect()
+    SERIES.into_iter().map(SeriesCase::fixed).collect()
 }
 
 fn deliver(script: &mut Script, line_end: u64, statements: &[Records]) {
-    script.deliver_bytes(line_end, &draft(&statements.concat(), line_end).bytes());
+    script.deliver_bytes(line_end, &file(statements, line_end));
 }
 
 fn newest(script: &mut Script, line_end: u64, statements: &[Records]) {
-    let file = draft(&statements.concat(), line_end).bytes();
-    script.newest_bytes(line_end, KEY, &file);
+    script.newest_bytes(line_end, KEY, &file(statements, line_end));
 }
 
 /// Statements of one day that differ in a text alone are several. Each is held in any writing.
@@ -94,7 +80,8 @@ fn in_two_files(script: &mut Script) {
     script.sound();
 }
 
-/// The held one ends with nothing; what is sent begins with either zero, or astray.
+/// The held one ends with nothing. What is sent begins with another balance; then with either zero
+/// a day later, which is stored; then on the very day, which is too early by then.
 fn nil_follows_nil(script: &mut Script) {
     let february = |zero: &str| statement(FEBRUARY, zero, &[SEVEN, MINUS_SEVEN], zero);
     let march = |zero: &str| statement(MARCH, zero, &[], zero);

@@ -82,8 +82,8 @@ impl Account {
         self.next_with(rng, &[(0, 0), (rest, 1)])
     }
 
-    /// The next statement of an account at nil, which stays there.
-    pub fn next_at_nil(&mut self, rng: &mut Rng) -> Statement {
+    /// The next statement, by which the balance stays.
+    pub fn next_unchanged(&mut self, rng: &mut Rng) -> Statement {
         let movements = cancelling(rng);
         self.next_with(rng, &movements)
     }
@@ -93,7 +93,13 @@ impl Account {
         statement_of(rng, &self.key, self.last, self.last.day, movements)
     }
 
-    /// A statement that begins with another balance, or on another day, than it should.
+    /// The next statement begins so many days later, with the same balance.
+    pub fn pause(&mut self, days: u64) {
+        self.last.day += days;
+    }
+
+    /// A statement that begins so many days later or earlier than the next one, and with so much
+    /// money more or less.
     pub fn astray(&self, rng: &mut Rng, days: i64, money: i64) -> Statement {
         let from = Balance {
             day: (self.last.day as i64 + days).max(0) as u64,

@@ -51,15 +51,15 @@ pub fn newest_refused(rng: &mut Rng, script: &mut Script) {
     let (mut one, mut two) = (Account::new(rng), Account::new(rng));
     let stranger = Account::new(rng);
     let held = [one.next(rng), two.next(rng)];
-    let astray = two.astray(rng, 0, 1);
+    let astray = [two.astray(rng, 0, 1), two.astray(rng, -1, 0)];
     let next = one.next_of(rng, 4);
     let lines = held[0].records.len() + held[1].records.len() + 3;
     script.fresh(lines);
     script.newest(1, &one.key, &[]);
     script.deliver(2, &[&held[0], &held[1]]);
     for key in [&one.key, &two.key, &stranger.key] {
-        script.newest(0, key, &[&astray]);
-        script.newest(1, key, &[&held[0], &astray]);
+        script.newest(0, key, &[&astray[0]]);
+        script.newest(1, key, &[&held[0], &astray[1]]);
         script.newest(2, key, &[&held[0], &held[1], &next]);
         script.newest(3, key, &[&held[0]]);
         script.newest_bytes(1, &key.bytes(), b"no record");

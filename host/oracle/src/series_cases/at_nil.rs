@@ -13,7 +13,7 @@ pub fn either_writing(rng: &mut Rng, script: &mut Script) {
     script.fresh(60);
     let (mut nil, mut other) = (Account::at_nil(rng), Account::new(rng));
     for line_end in 0..3 {
-        let next = nil.next_at_nil(rng);
+        let next = nil.next_unchanged(rng);
         let [debits, credits] = ZEROS.map(|zero| with_zeros(&next, zero));
         let beside = other.next(rng);
         script.newest(line_end, &nil.key, &[&debits, &credits]);
@@ -32,7 +32,8 @@ pub fn either_writing(rng: &mut Rng, script: &mut Script) {
 }
 
 /// What follows a balance of nothing begins with either zero, and not with another balance or on
-/// another day.
+/// an earlier day. Of two that stay at nil the later one follows as well; where it comes alone the
+/// earlier one is passed over.
 pub fn follows(rng: &mut Rng, script: &mut Script) {
     script.fresh(100);
     for held in ZEROS {
@@ -40,14 +41,18 @@ pub fn follows(rng: &mut Rng, script: &mut Script) {
             let mut account = Account::new(rng);
             let last = with_zeros(&account.next_to_nil(rng), held);
             script.deliver(rng.below(3), &[&last]);
-            for (days, money) in [(0, 1), (0, 10), (1, 0), (-1, 0)] {
+            for (days, money) in [(0, 1), (0, 10), (1, 10), (-1, 0)] {
                 let astray = with_zeros(&account.astray(rng, days, money), sent);
                 script.deliver(rng.below(3), &[&last, &astray]);
             }
-            let next = [account.next_at_nil(rng), account.next_at_nil(rng)];
+            account.pause(rng.below(3));
+            let next = [account.next_unchanged(rng), account.next_unchanged(rng)];
             let [next, after] = next.map(|next| with_zeros(&next, sent));
             script.newest(rng.below(3), &account.key, &[&next]);
-            script.deliver(rng.below(3), &[&after]);
+            script.deliver(rng.below(3), &[&after, &next]);
+            if rng.one_in(2) {
+                script.deliver(rng.below(3), &[&after]);
+            }
             script.deliver(rng.below(3), &[&last, &next]);
             script.deliver(rng.below(3), &[&after, &next]);
             script.newest(rng.below(3), &account.key, &[]);

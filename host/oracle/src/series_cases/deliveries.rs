@@ -62,7 +62,7 @@ pub fn overlaps(rng: &mut Rng, script: &mut Script) {
 }
 
 /// Up to three statements that were sent before, in some writing, with up to three new ones among
-/// them.
+/// them. Some new ones begin days after the one before.
 pub fn overlap(
     rng: &mut Rng,
     accounts: &mut [Account],
@@ -77,8 +77,12 @@ pub fn overlap(
     let mut place = 0;
     for _ in 0..1 + rng.index(3) {
         place += rng.index(file.len() - place + 1);
-        let account = rng.index(accounts.len());
-        let next = accounts[account].next(rng);
+        let index = rng.index(accounts.len());
+        let account = &mut accounts[index];
+        if rng.one_in(4) {
+            account.pause(1 + rng.below(3));
+        }
+        let next = account.next(rng);
         file.insert(place, next.clone());
         place += 1;
         sent.push(next);
@@ -212,14 +216,14 @@ pub fn empty_period(rng: &mut Rng, script: &mut Script) {
     script.sound();
 }
 
-/// Wrong by its balance, by a day, by both; then one that follows.
+/// Wrong by its balance, by an earlier day, by both; then ones that follow, on the day and later.
 pub fn does_not_follow(rng: &mut Rng, script: &mut Script) {
-    script.fresh(40);
+    script.fresh(80);
     let mut account = Account::new(rng);
     let mut other = Account::new(rng);
     let (first, second) = (account.next(rng), account.next(rng));
     script.deliver(0, &[&first, &second]);
-    for (days, money) in [(0, 1), (0, 100), (-1, 0), (1, 0), (1, 1), (-365, 0)] {
+    for (days, money) in [(0, 1), (0, 100), (-1, 0), (1, 1), (-1, 1), (-365, 0)] {
         let astray = account.astray(rng, days, money);
         let line_end = rng.below(3);
         script.deliver(line_end, &[&astray]);
@@ -234,5 +238,16 @@ pub fn does_not_follow(rng: &mut Rng, script: &mut Script) {
     script.deliver(1, &[&new, &account.astray(rng, 0, 1)]);
     let third = account.next(rng);
     script.deliver(1, &[&new, &third]);
+    for days in [1, 3, 0, 31] {
+        account.pause(days);
+        // On the day that it begins, with another balance; and a day before the last new date.
+        let dear = account.astray(rng, 0, 1);
+        let early = account.astray(rng, -1 - days as i64, 0);
+        let next = account.next(rng);
+        script.deliver(rng.below(3), &[&new, &dear]);
+        script.deliver(rng.below(3), &[&third, &early]);
+        script.newest(rng.below(3), &account.key, &[&next]);
+        script.deliver(rng.below(3), &[&next, &third]);
+    }
     script.sound();
 }

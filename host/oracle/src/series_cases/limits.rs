@@ -81,7 +81,8 @@ pub fn lines_full(rng: &mut Rng, script: &mut Script) {
     }
 }
 
-/// No entry and no line left is 23, an entry but no line left is 24; 22 comes before both.
+/// No entry and no line left is 23, an entry but no line left is 24; 22 comes before both, and not
+/// for a later day.
 pub fn table_and_lines_full(rng: &mut Rng, script: &mut Script) {
     for (entries, lines) in [(128, 256), (127, 255), (127, 254)] {
         let mut accounts: Vec<Account> = (0..2).map(|_| Account::new(rng)).collect();
@@ -92,7 +93,9 @@ pub fn table_and_lines_full(rng: &mut Rng, script: &mut Script) {
         script.deliver(0, &[&next]);
         script.deliver(1, &[&strange]);
         script.deliver(2, &[&held[1], &strange]);
-        script.deliver(0, &[&accounts[1].astray(rng, 1, 0)]);
+        for (days, money) in [(-1, 0), (1, 1), (1, 0)] {
+            script.deliver(0, &[&accounts[1].astray(rng, days, money)]);
+        }
         script.deliver(1, &[&held[0], &held[entries - 1]]);
         script.newest(0, &accounts[0].key, &[&next]);
         script.newest(0, &accounts[0].key, &[&held[0]]);

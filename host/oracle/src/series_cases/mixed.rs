@@ -95,14 +95,14 @@ impl Walk {
         (0..count).map(|_| one()).collect()
     }
 
-    /// A right statement and one that does not follow; neither is stored, so no account goes on.
+    /// A statement that may follow and one that does not; neither is stored, so no account goes on.
     fn send_astray(&self, rng: &mut Rng, script: &mut Script) {
         let account = &self.accounts[rng.index(self.accounts.len())];
         let mut file = self.some_sent(rng);
-        let days = rng.pick(&[-1, 0, 1]);
+        let days = rng.pick(&[-1, 0, 1, 3]);
         let money = rng.pick(&[0, 1]);
         file.push(account.astray(rng, days, money));
-        file.push(account.astray(rng, 2, 2));
+        file.push(account.astray(rng, -2, 2));
         script.deliver(rng.below(3), &file.iter().collect::<Vec<_>>());
     }
 

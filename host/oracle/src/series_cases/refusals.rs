@@ -19,7 +19,7 @@ pub fn later_in_the_file(rng: &mut Rng, script: &mut Script) {
     let (mut one, mut two) = (Account::new(rng), Account::new(rng));
     let held = [one.next(rng), two.next(rng), one.next(rng)];
     script.deliver(rng.below(3), &held.iter().collect::<Vec<_>>());
-    let bad = [one.astray(rng, 0, 1), two.astray(rng, 1, 0)];
+    let bad = [one.astray(rng, 0, 1), two.astray(rng, -1, 0)];
     let next = [
         one.next(rng),
         two.next_plain(rng),

@@ -7,7 +7,7 @@ use super::script::TABLE;
 use crate::damage::other_byte;
 use crate::record::{is_nil, put, write_amount, write_date, CREDIT_ZERO, DEBIT_ZERO, RECORD};
 use crate::rng::Rng;
-use crate::valid::{complement, Balance, Key, Statement};
+use crate::valid::{complement, Key, Statement};
 
 /// Bytes of an entry.
 const ENTRY: usize = 60;
@@ -292,6 +292,12 @@ fn add_balances(scene: &mut Scene) {
 
 /// Other dates, in the body alone, in the entry alone, in both.
 fn add_dates(scene: &mut Scene) {
+    add_longer_periods(scene);
+    add_shorter_periods(scene);
+}
+
+/// A day longer at either end. Where that is inside a chain, the chain breaks.
+fn add_longer_periods(scene: &mut Scene) {
     for index in 0..3 {
         let statement = scene.list[index].clone();
         let old = write_date(statement.old.day - 1);
@@ -308,6 +314,29 @@ fn add_dates(scene: &mut Scene) {
         scene.put_all(&name("old-dates"), index != 2, &both);
         let both: [Edit; 2] = [(new_at, &new), (at(index, 32), &new)];
         scene.put_all(&name("new-dates"), index != 0, &both);
+    }
+}
+
+/// A day shorter at either end, the movement booked at the other end. Inside a chain there is a day
+/// between then, and the chain goes on.
+fn add_shorter_periods(scene: &mut Scene) {
+    for index in 0..3 {
+        let statement = scene.list[index].clone();
+        let [first, last] = [statement.old.day, statement.new.day].map(write_date);
+        let later = write_date(statement.old.day + 1);
+        let earlier = write_date(statement.new.day - 1);
+        let lines = [0, 1, 2, 3].map(|line| scene.body(index) + RECORD * line + 34);
+        let name = |what: &str| format!("{what}-{}", index + 1);
+        let body: [Edit; 3] = [(lines[0], &later), (lines[1], &last), (lines[2], &last)];
+        scene.put_all(&name("later-old-date-of-body"), false, &body);
+        let entry = (at(index, 26), &later[..]);
+        scene.put_all(&name("later-old-date-of-entry"), false, &[entry]);
+        let both = [&body[..], &[entry]].concat();
+        scene.put_all(&name("later-old-dates"), true, &both);
+        let body: [Edit; 3] = [(lines[1], &first), (lines[2], &first), (lines[3], &earlier)];
+        let entry = (at(index, 32), &earlier[..]);
+        let both = [&body[..], &[entry]].concat();
+        scene.put_all(&name("earlier-new-dates"), true, &both);
     }
 }
 
@@ -470,14 +499,23 @@ pub fn one_bank(rng: &mut Rng) -> Scene {
     );
     scene.other_list("chain-of-the-second", true, &list([&one.key, &two, &two]));
     scene.other_list("chain-of-one", true, &list([&two, &two, &two]));
+    // A day too early, and a day later with what is booked.
+    let mut early = list([&one.key, &two, &two]);
+    early[2].old.day -= 1;
+    let day = write_date(early[2].old.day);
+    put(&mut early[2].records[0], 35, &day);
+    scene.other_list("chain-broken-by-a-day", false, &early);
     let mut late = list([&one.key, &two, &two]);
-    late[2].old = Balance {
-        day: late[2].old.day - 1,
-        ..late[2].old
-    };
-    let day = write_date(late[2].old.day);
-    put(&mut late[2].records[0], 35, &day);
-    scene.other_list("chain-broken-by-a-day", false, &late);
+    late[2].old.day += 1;
+    let [first, last] = [late[2].old.day, late[2].new.day].map(write_date);
+    for (record, date) in late[2]
+        .records
+        .iter_mut()
+        .zip([&first, &last, &last, &last])
+    {
+        put(record, 35, date);
+    }
+    scene.other_list("chain-with-a-day-between", true, &late);
     scene
 }
 

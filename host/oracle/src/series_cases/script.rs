@@ -19,6 +19,21 @@ pub struct SeriesCase {
 /// Writes a series of its kind.
 pub type Make = fn(&mut Rng, &mut Script);
 
+/// Writes a series that has no seed.
+pub type Write = fn(&mut Script);
+
+impl SeriesCase {
+    /// A series without a seed, by its name.
+    pub fn fixed((name, write): (&'static str, Write)) -> SeriesCase {
+        let mut script = Script::default();
+        write(&mut script);
+        SeriesCase {
+            name,
+            bytes: script.bytes,
+        }
+    }
+}
+
 /// A series that grows.
 #[derive(Default)]
 pub struct Script {

@@ -91,6 +91,19 @@ fn movements_before_the_span_count() {
     assert_eq!(amounts(&three_months(), 20700101, 20700101), [121_833]);
 }
 
+/// November closes on Friday, December opens with Sunday; its first movement is valued on the
+/// Saturday between.
+#[test]
+fn m3_days_between_two_statements() {
+    let november = statement(("311025", 100), ("281125", 120), &[("281125", 20)]);
+    let movements = [("291125", -30), ("011225", 5)];
+    let december = statement(("301125", 120), ("311225", 95), &movements);
+    let journal = holding(8, &[november, december]);
+    let expected = [100, 120, 90, 90, 95, 95];
+    assert_eq!(amounts(&journal, 20251127, 20251202), expected);
+    assert_eq!(amounts(&journal, 20251231, 20251231), [95]);
+}
+
 #[test]
 fn p1_spans_of_400_days_and_of_401() {
     assert_eq!(amounts(&three_months(), 20240101, 20250203).len(), 400);

@@ -117,18 +117,30 @@ fn nil_commands() {
         let answer = oracle(&["check", columns[1], &path], b"").stdout;
         assert_eq!(answer, format!("{}\n", columns[2]).as_bytes());
     }
-    let printed = oracle(&["series-nil", directory], b"").stdout;
+    assert_lines_of_runs("series-nil", directory, 6);
+}
+
+#[test]
+fn month_ends_command() {
+    let directory = PathBuf::from(env!("CARGO_TARGET_TMPDIR")).join("month-ends");
+    assert_lines_of_runs("series-month-ends", directory.to_str().unwrap(), 10);
+}
+
+/// A command writes so many numbered series and prints the lines of their runs.
+fn assert_lines_of_runs(command: &str, directory: &str, count: usize) {
+    let printed = oracle(&[command, directory], b"").stdout;
     let mut lines = Vec::new();
-    for number in 1..=6 {
+    for number in 1..=count {
         let path = format!("{directory}/{number:03}.series");
         lines.append(&mut oracle(&["series", &path], b"").stdout);
     }
+    assert!(!lines.is_empty());
     assert_eq!(printed, lines);
 }
 
 #[test]
 fn mistakes_in_the_call() {
-    let calls: [&[&str]; 11] = [
+    let calls: [&[&str]; 13] = [
         &["place", "1"],
         &["place", "x", "no such file", "1"],
         &["movement", "1", "no such file", "1"],
@@ -140,6 +152,8 @@ fn mistakes_in_the_call() {
         &["series-big"],
         &["nil"],
         &["series-nil"],
+        &["series-month-ends"],
+        &["series-of-no-kind", "no such directory"],
     ];
     for arguments in calls {
         assert_eq!(oracle(arguments, b"").status.code(), Some(2));

@@ -129,9 +129,9 @@ fn f7_the_last_includes_those_of_the_file() {
     assert_eq!(delivered(&blank(12), &sheets).0, stored(3, 0));
 }
 
-/// Both the balance and the date.
+/// Both the balance and the date, which may be later.
 #[test]
-fn f7_same_balance_and_same_date() {
+fn f7_same_balance_and_no_earlier_date() {
     let after_february = |date: &str, amount: &str| {
         let sheet = Sheet(vec![
             balance("01", date, amount),
@@ -142,7 +142,8 @@ fn f7_same_balance_and_same_date() {
     };
     assert_eq!(after_february("280225", "0000000012083C"), stored(1, 0));
     assert_eq!(after_february("270225", "0000000012083C"), refusal(22, 1));
-    assert_eq!(after_february("010325", "0000000012083C"), refusal(22, 1));
+    assert_eq!(after_february("010325", "0000000012083C"), stored(1, 0));
+    assert_eq!(after_february("010325", "0000000012083B"), refusal(22, 1));
     assert_eq!(after_february("280225", "0000000012083B"), refusal(22, 1));
     assert_eq!(after_february("280225", "0000000012083D"), refusal(22, 1));
     assert_eq!(after_february("280224", "0000000012083C"), refusal(22, 1));

@@ -209,7 +209,7 @@ fn f5_chain_broken_for_one_account() {
     )));
 }
 
-/// The same date with another balance, the same balance on another day.
+/// The same date with another balance, the same balance on an earlier day and on a later one.
 #[test]
 fn f5_chain_by_balance_and_date() {
     let chained = |date: &str, old: &str, new: &str| {
@@ -225,7 +225,8 @@ fn f5_chain_by_balance_and_date() {
     assert!(!chained("280225", "0000000012083D", "0000000012183D"));
     assert!(!chained("280225", "0000000012083L", "0000000011983L"));
     assert!(!chained("270225", "0000000012083C", "0000000012183C"));
-    assert!(!chained("010325", "0000000012083C", "0000000012183C"));
+    assert!(chained("010325", "0000000012083C", "0000000012183C"));
+    assert!(!chained("010325", "0000000012083D", "0000000012183D"));
 }
 
 /// 25 for 0 and for all above the entries used; 21 first.

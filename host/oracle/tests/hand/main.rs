@@ -10,6 +10,7 @@ mod delivery;
 mod earliest;
 mod journal;
 mod listing;
+mod month_ends;
 mod newest;
 mod night;
 mod nil;

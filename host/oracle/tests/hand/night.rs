@@ -18,9 +18,23 @@ const FEBRUARY: usize = 2;
 const MARCH: usize = 3;
 const APRIL: usize = 4;
 
-/// A statement of an account for a month.
+/// A statement of an account for a month, two records. The account is dormant: each of its months
+/// follows each earlier one.
 fn month(account: &[u8; 11], month: usize) -> Sheet {
     period(account, ENDS[month], ENDS[month + 1])
+}
+
+/// A statement of an account for a month by which its balance grows, three records. Without it the
+/// next one does not follow.
+fn busy_month(account: &[u8; 11], month: usize) -> Sheet {
+    let (old, new) = (ENDS[month], ENDS[month + 1]);
+    let amount = |more: usize| format!("000000001000{}{{", month + more);
+    let ten = movement("05", new, new, "0000000000001{");
+    let sheet = period(account, old, new).with(2, ten);
+    sheet
+        .set(1, 91, amount(0).as_bytes())
+        .set(2, 22, account)
+        .set(3, 91, amount(1).as_bytes())
 }
 
 /// A journal with so many lines that holds what these files have.
@@ -178,19 +192,22 @@ fn a_second_round() {
 /// What waits for a month that does not come is left; a round that gets no file done is the last.
 #[test]
 fn a_month_is_missing() {
-    let held = [month(A, DECEMBER)];
+    let held = [busy_month(A, DECEMBER)];
     let files = [
         ("new", month(B, MARCH)),
-        ("late", month(A, FEBRUARY).then(month(A, MARCH))),
-        ("again", month(A, DECEMBER).then(month(A, FEBRUARY))),
-        ("held", month(A, DECEMBER)),
+        ("late", busy_month(A, FEBRUARY).then(busy_month(A, MARCH))),
+        (
+            "again",
+            busy_month(A, DECEMBER).then(busy_month(A, FEBRUARY)),
+        ),
+        ("held", busy_month(A, DECEMBER)),
     ];
     let night = run(&journal(9, &held), &files);
     assert_eq!(night.rounds, [2, 0]);
     assert_eq!(night.fates["late"], left(22, 1));
-    assert_eq!(night.fates["again"], left(22, 3));
+    assert_eq!(night.fates["again"], left(22, 4));
     assert_eq!(night.fates["held"], done(0, 1));
-    assert_holds(&night, &[month(A, DECEMBER), month(B, MARCH)]);
+    assert_holds(&night, &[busy_month(A, DECEMBER), month(B, MARCH)]);
     assert_eq!(text(&night, "left"), "again\nlate\n");
     assert_eq!(text(&night, "status"), "4\n");
     let totals = "done 2, refused 0, left 2, stored 1, held 1\n";
@@ -337,8 +354,8 @@ fn a_first_month_that_waits() {
 /// Where the other account does not come on, the first does not begin, and all its files are left.
 #[test]
 fn an_account_does_not_begin_without_its_first() {
-    let held = month(A, JANUARY);
-    let two = month(B, JANUARY).then(month(A, MARCH));
+    let held = busy_month(A, JANUARY);
+    let two = month(B, JANUARY).then(busy_month(A, MARCH));
     let files = [
         ("x", two),
         ("y", month(B, FEBRUARY)),
@@ -373,14 +390,34 @@ fn two_files_hold_each_other_back() {
     assert_eq!(text(&night, "status"), "4\n");
 }
 
-/// A file that can never be delivered holds others back all the same.
+/// A file with the months before and after another's: each waits for the other, whether the account
+/// is new or known, dormant or not.
 #[test]
 fn a_gap_inside_a_file() {
-    let gap = month(B, JANUARY).then(month(B, MARCH));
+    for month in [month, busy_month] {
+        for held in [&[][..], &[month(A, JANUARY)]] {
+            let before = journal(20, held);
+            let two = month(A, FEBRUARY).then(month(A, APRIL));
+            let night = run(&before, &[("x", two), ("y", month(A, MARCH))]);
+            assert_eq!(night.rounds, [0]);
+            assert_eq!(night.fates["x"], Fate::HeldBack);
+            assert_eq!(night.fates["y"], Fate::HeldBack);
+            assert!(night.journal == before);
+            assert_eq!(text(&night, "left"), "x\ny\n");
+            assert_eq!(text(&night, "status"), "4\n");
+        }
+    }
+}
+
+/// The first month of a new account stands in a file with a month that does not follow it.
+#[test]
+fn a_file_that_is_refused_holds_others_back() {
+    let gap = busy_month(B, JANUARY).then(busy_month(B, APRIL));
+    let files = [("x", gap), ("y", busy_month(B, APRIL))];
     let before = journal(20, &[]);
-    let night = run(&before, &[("x", gap), ("y", month(B, FEBRUARY))]);
+    let night = run(&before, &files);
     assert_eq!(night.rounds, [0]);
-    assert_eq!(night.fates["x"], left(22, 3));
+    assert_eq!(night.fates["x"], left(22, 4));
     assert_eq!(night.fates["y"], Fate::HeldBack);
     assert!(night.journal == before);
 }
@@ -390,8 +427,12 @@ fn a_gap_inside_a_file() {
 fn the_earliest_may_stand_last() {
     let backwards = month(A, MARCH).then(month(A, JANUARY));
     let before = journal(20, &[]);
-    let night = run(&before, &[("x", backwards), ("y", month(A, FEBRUARY))]);
+    let night = run(&before, &[("x", backwards.clone()), ("y", month(A, MARCH))]);
     assert_eq!(night.fates["x"], left(22, 3));
+    assert_eq!(night.fates["y"], Fate::HeldBack);
+    assert!(night.journal == before);
+    let night = run(&before, &[("x", backwards), ("y", month(A, FEBRUARY))]);
+    assert_eq!(night.fates["x"], Fate::HeldBack);
     assert_eq!(night.fates["y"], Fate::HeldBack);
     assert!(night.journal == before);
 }
@@ -426,33 +467,33 @@ fn of_one_day_the_shorter_first() {
     assert_holds(&night, &[opening, january]);
 }
 
-/// An account that the journal knows is not held back: December waits in vain, February follows.
-/// What does not follow is refused, though an earlier file waits.
+/// What can no longer be stored holds nothing back: December waits in vain, February follows. What
+/// does not follow is refused.
 #[test]
-fn a_known_account_is_not_held_back() {
-    let held = month(A, JANUARY);
+fn what_is_too_early_holds_nothing_back() {
+    let held = busy_month(A, JANUARY);
     let files = [
-        ("x", month(A, DECEMBER)),
-        ("y", month(A, FEBRUARY)),
-        ("z", month(A, APRIL)),
+        ("x", busy_month(A, DECEMBER)),
+        ("y", busy_month(A, FEBRUARY)),
+        ("z", busy_month(A, APRIL)),
     ];
     let night = run(&journal(9, std::slice::from_ref(&held)), &files);
     assert_eq!(night.rounds, [1, 0]);
     assert_eq!(night.fates["x"], left(22, 1));
     assert_eq!(night.fates["y"], done(1, 0));
     assert_eq!(night.fates["z"], left(22, 1));
-    assert_holds(&night, &[held, month(A, FEBRUARY)]);
+    assert_holds(&night, &[held, busy_month(A, FEBRUARY)]);
 }
 
 /// An account that a file begins is known to the next one in the same round: March is done in the
 /// first, though a file with February waits on.
 #[test]
 fn an_account_is_known_at_once() {
-    let held = month(B, JANUARY);
+    let held = busy_month(B, JANUARY);
     let first = month(A, JANUARY).then(month(A, FEBRUARY));
     let files = [
         ("x", first.clone()),
-        ("y", month(A, FEBRUARY).then(month(B, MARCH))),
+        ("y", month(A, FEBRUARY).then(busy_month(B, MARCH))),
         ("z", month(A, MARCH)),
     ];
     let night = run(&journal(20, std::slice::from_ref(&held)), &files);
@@ -465,14 +506,14 @@ fn an_account_is_known_at_once() {
 #[test]
 fn one_of_two_accounts_is_new() {
     let held = month(A, JANUARY);
-    let two = month(A, FEBRUARY).then(month(B, FEBRUARY));
-    let gap = month(B, JANUARY).then(month(B, MARCH));
+    let two = month(A, FEBRUARY).then(busy_month(B, MARCH));
+    let gap = busy_month(B, JANUARY).then(busy_month(B, MARCH));
     let night = run(
         &journal(9, std::slice::from_ref(&held)),
         &[("x", two), ("y", gap)],
     );
     assert_eq!(night.fates["x"], Fate::HeldBack);
-    assert_eq!(night.fates["y"], left(22, 3));
+    assert_eq!(night.fates["y"], left(22, 4));
     assert_holds(&night, &[held]);
 }
 
@@ -529,7 +570,8 @@ fn accounts_are_whole_keys() {
         let other = (1..=4).fold(gap, |sheet, record| sheet.set(record, position, bytes));
         let files = [("x", other), ("y", month(A, FEBRUARY))];
         let night = run(&journal(9, &[]), &files);
-        assert_eq!(night.fates["x"], left(22, 3), "{position}");
+        assert_eq!(night.rounds, [2]);
+        assert_eq!(night.fates["x"], done(2, 0), "{position}");
         assert_eq!(night.fates["y"], done(1, 0), "{position}");
     }
 }
@@ -554,4 +596,164 @@ fn holding_back_at_the_turn_of_the_century() {
         &[("x", january.then(march)), ("y", december)],
     );
     assert_eq!(night.fates["y"], done(1, 0));
+}
+
+/// A dormant account: March would follow January, and its name comes before that of February. Known
+/// or new, all are stored, in order.
+#[test]
+fn a_dormant_account() {
+    let [january, february, march] = [JANUARY, FEBRUARY, MARCH].map(|one| month(A, one));
+    let files = [("a", march.clone()), ("b", february.clone())];
+    let night = run(&journal(9, std::slice::from_ref(&january)), &files);
+    assert_eq!(night.rounds, [2]);
+    assert_holds(&night, &[january, february.clone(), march.clone()]);
+    let night = run(&journal(9, &[]), &files);
+    assert_eq!(night.rounds, [2]);
+    assert_holds(&night, &[february, march]);
+    assert_eq!(text(&night, "status"), "0\n");
+}
+
+/// March stands in a file with January of another account, and that file comes first. It is held
+/// back until February has come, whether the account is known or new.
+#[test]
+fn a_dormant_account_in_a_file_of_two() {
+    let two = month(B, JANUARY).then(month(A, MARCH));
+    let files = [("a", two.clone()), ("b", month(A, FEBRUARY))];
+    let january = month(A, JANUARY);
+    for held in [&[][..], std::slice::from_ref(&january)] {
+        let night = run(&journal(9, held), &files);
+        assert_eq!(night.rounds, [1, 1]);
+        assert_eq!(night.fates["a"], done(2, 0));
+        assert_eq!(night.fates["b"], done(1, 0));
+        let after = [held, &[month(A, FEBRUARY), two.clone()]].concat();
+        assert_holds(&night, &after);
+    }
+}
+
+/// February does not come: nothing tells that it is missing, and March passes it over. The next
+/// night it is too early.
+#[test]
+fn a_dormant_month_is_passed_over() {
+    let held = month(A, JANUARY);
+    let files = [("x", month(A, MARCH)), ("y", month(A, APRIL))];
+    let first = run(&journal(9, std::slice::from_ref(&held)), &files);
+    assert_eq!(first.rounds, [2]);
+    let after = [held, month(A, MARCH), month(A, APRIL)];
+    assert_holds(&first, &after);
+    let second = run(&first.journal, &[("z", month(A, FEBRUARY))]);
+    assert_eq!(second.rounds, [0]);
+    assert_eq!(second.fates["z"], left(22, 1));
+    assert_holds(&second, &after);
+}
+
+/// Months that close one to three days before the next one opens.
+#[test]
+fn months_that_close_early() {
+    let [november, december, january] = [
+        period(A, "311025", "281125"),
+        period(A, "301125", "311225"),
+        period(A, "311225", "300126"),
+    ];
+    let february = period(A, "310126", "270226");
+    let files = [
+        ("a", february.clone()),
+        ("b", january.clone()),
+        ("c", december.clone()),
+    ];
+    let night = run(&journal(9, std::slice::from_ref(&november)), &files);
+    assert_eq!(night.rounds, [3]);
+    assert_holds(
+        &night,
+        &[
+            november.clone(),
+            december.clone(),
+            january.clone(),
+            february.clone(),
+        ],
+    );
+    // New, and the first month in a file that comes last for its name and first for its date.
+    let files = [
+        ("a", february.then(period(B, "270226", "310326"))),
+        ("b", november.clone()),
+    ];
+    let night = run(&journal(12, &[]), &files);
+    assert_eq!(night.rounds, [2]);
+    let [first, second] = files.map(|(_, sheet)| sheet);
+    assert_holds(&night, &[second, first]);
+    // Known, and December in a file that waits for another account: January waits too.
+    let stuck = december.then(busy_month(B, APRIL));
+    let before = journal(12, &[november, busy_month(B, JANUARY)]);
+    let night = run(&before, &[("a", january), ("b", stuck)]);
+    assert_eq!(night.rounds, [0]);
+    assert_eq!(night.fates["a"], Fate::HeldBack);
+    assert_eq!(night.fates["b"], left(22, 3));
+    assert!(night.journal == before);
+}
+
+/// What begins on the very day of the last new date leaves no day out: it goes ahead of a shorter
+/// one that begins on that day, and waits only for one that ends on it too.
+#[test]
+fn on_the_very_day_of_the_last() {
+    let held = month(A, JANUARY);
+    let before = journal(9, std::slice::from_ref(&held));
+    let february = month(A, FEBRUARY);
+    let fortnight = period(A, "310125", "140225");
+    let files = [("a", february.clone()), ("b", fortnight.clone())];
+    let night = run(&before, &files);
+    assert_eq!(night.rounds, [1, 0]);
+    assert_eq!(night.fates["b"], left(22, 1));
+    assert_holds(&night, &[held.clone(), february.clone()]);
+    let one_day = period(A, "310125", "310125");
+    let files = [("a", february.clone()), ("b", one_day.clone())];
+    let night = run(&before, &files);
+    assert_eq!(night.rounds, [1, 1]);
+    assert_holds(&night, &[held.clone(), one_day, february]);
+    // A day later the fortnight comes first, and then the other is too early.
+    let late = period(A, "010225", "280225");
+    let files = [("a", late), ("b", fortnight.clone())];
+    let night = run(&before, &files);
+    assert_eq!(night.rounds, [1, 0]);
+    assert_eq!(night.fates["a"], left(22, 1));
+    assert_holds(&night, &[held, fortnight]);
+}
+
+/// One that begins and ends on the day of the last could follow itself: a copy holds nothing back,
+/// whether it is held or stands in the file itself.
+#[test]
+fn copies_of_a_single_day() {
+    let one_day = period(A, "310125", "310125");
+    let february = month(A, FEBRUARY);
+    let both = one_day.clone().then(february.clone());
+    let files = [("a", both.clone()), ("b", both.clone())];
+    let night = run(&journal(9, &[]), &files);
+    assert_eq!(night.fates["a"], done(2, 0));
+    assert_eq!(night.fates["b"], done(0, 2));
+    let stuck = one_day.clone().then(busy_month(B, MARCH));
+    let held = [one_day.clone(), busy_month(B, JANUARY)];
+    let files = [("a", stuck.clone()), ("b", february.clone())];
+    let night = run(&journal(20, &held), &files);
+    assert_eq!(night.fates["a"], left(22, 3));
+    assert_eq!(night.fates["b"], done(1, 0));
+    let files = [("a", stuck), ("b", both)];
+    let night = run(&journal(20, &held[1..]), &files);
+    assert_eq!(night.fates["a"], left(22, 3));
+    assert_eq!(night.fates["b"], done(2, 0));
+}
+
+/// What stands before a statement in its own file counts as if it were held.
+#[test]
+fn statements_before_it_in_its_file() {
+    let held = month(A, JANUARY);
+    let before = journal(20, std::slice::from_ref(&held));
+    let both = month(A, FEBRUARY).then(month(A, MARCH));
+    let stuck = month(A, FEBRUARY).then(busy_month(B, MARCH));
+    let files = [
+        ("x", both.clone()),
+        ("y", stuck),
+        ("z", busy_month(B, JANUARY)),
+    ];
+    let night = run(&before, &files);
+    assert_eq!(night.fates["x"], done(2, 0));
+    assert_eq!(night.fates["y"], left(22, 3));
+    assert_holds(&night, &[held, busy_month(B, JANUARY), both]);
 }

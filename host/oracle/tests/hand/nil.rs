@@ -7,7 +7,7 @@ use crate::common::{
     accepted, balance, complement, long_statement, movement, refused, with_complements, worked,
     Sheet, MMO,
 };
-use crate::series::without_hash;
+use crate::series::lines_of;
 use crate::shelf::{
     accounts, b, blank, delivered, file, journal, numbered_account, refusal, standstill, stored,
     with, KEY,
@@ -20,7 +20,6 @@ use oracle::journal::{as_stored, body, entry, is_sound, open, used, Used};
 use oracle::listing::listing;
 use oracle::nil::{checks, series};
 use oracle::read::{head, movement as read_movement, place, statements, Place, Refusal};
-use oracle::series::run;
 use oracle::show::readings;
 use oracle::values::Values;
 use oracle::writer::write_statement;
@@ -353,10 +352,10 @@ fn n5_does_not_follow() {
             refusal(22, 1)
         );
     }
-    for date in [b"270225", b"010325"] {
-        let sheet = quiet_march(DEBIT, DEBIT).set(1, 35, date);
-        assert_eq!(delivered(&before, &[sheet]).0, refusal(22, 1));
-    }
+    let early = quiet_march(DEBIT, DEBIT).set(1, 35, b"270225");
+    assert_eq!(delivered(&before, &[early]).0, refusal(22, 1));
+    let late = quiet_march(DEBIT, DEBIT).set(1, 35, b"010325");
+    assert_eq!(delivered(&before, &[late]).0, stored(1, 0));
     // A debit zero after a balance.
     let before = holding(&worked());
     assert_eq!(
@@ -566,12 +565,8 @@ fn vectors_get_the_answer_they_expect() {
     }
 }
 
-/// The lines of the series of that name, without hashes.
 fn lines(name: &str) -> Vec<String> {
-    let series = series();
-    let case = series.iter().find(|case| case.name == name).unwrap();
-    let lines = run(&case.bytes).unwrap();
-    lines.iter().map(|line| without_hash(line)).collect()
+    lines_of(&series(), name)
 }
 
 /// Four texts with the other sign, each twice in a file, the one that is held between them.
@@ -640,6 +635,7 @@ fn lines_of_two_files() {
     assert_eq!(lines("N4-in-two-files"), expected);
 }
 
+/// March is stored a day late, and then refused on the day that it should begin.
 #[test]
 fn lines_of_nil_after_nil() {
     let each = [
@@ -647,9 +643,9 @@ fn lines_of_nil_after_nil() {
         "O opened",
         "D stored 1 held 0",
         "D refused 22 1",
-        "D refused 22 1",
         "D stored 1 held 0",
-        "D stored 0 held 2",
+        "D refused 22 1",
+        "D refused 22 5",
         "S sound",
     ];
     let in_one_file = [

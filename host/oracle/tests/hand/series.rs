@@ -2,6 +2,7 @@
 
 use crate::shelf::{april, february, march, KEY};
 use oracle::series::{hash, run};
+use oracle::series_cases::SeriesCase;
 
 fn lines(series: &[u8]) -> Vec<String> {
     run(series).unwrap()
@@ -64,8 +65,15 @@ fn a_series_and_its_lines() {
     assert_ne!(hash_of(&answers[2]), hash_of(&answers[4]));
 }
 
+/// The lines of the series of that name, without hashes.
+pub fn lines_of(cases: &[SeriesCase], name: &str) -> Vec<String> {
+    let case = cases.iter().find(|case| case.name == name).unwrap();
+    let lines = lines(&case.bytes);
+    lines.iter().map(|line| without_hash(line)).collect()
+}
+
 /// A line without the hash of the journal, if it has one.
-pub fn without_hash(line: &str) -> String {
+fn without_hash(line: &str) -> String {
     match line.rsplit_once(' ') {
         Some((words, _)) if line.starts_with(['D', 'O']) => words.to_string(),
         _ => line.to_string(),
