@@ -32,8 +32,8 @@ static const struct option_form options[] = {
      "gives up after so many seconds where another command\n"
      "holds the journal or the folder, for each file; without\nit, waits as long as it takes"},
     {OPTION_GO_ON, "go-on", NULL,
-     "delivers the others where a file cannot be read; without\n"
-     "it, nothing is delivered after it"},
+     "delivers the others where a file cannot be read; what is\n"
+     "in it may then never be stored"},
     {OPTION_WHOLE, "whole", NULL, "amounts as whole numbers of the last decimal place"},
     {OPTION_SVG, "svg", "FILE",
      "draws it too, to this file. It may be an older picture of\n"
@@ -86,13 +86,15 @@ static const struct subcommand subcommands[] = {
      .operands = "JOURNAL INCOMING DONE REFUSED",
      .summary = "delivers the files of a folder and puts them away",
      .text = "Delivers the files that wait in the folder INCOMING, those with the earliest old balance date first,\n"
-             "in rounds until nothing more can be stored. Moves what is stored or held to DONE, and what is\n"
-             "refused by its own fault (1 to 15) to REFUSED, with its answer in NAME.answer beside it. What the\n"
-             "journal cannot take now (22 to 24) is left. No file is overwritten: a number is put behind its name.\n"
+             "in rounds as long as files are stored or held. Moves these to DONE, and what is refused by its own\n"
+             "fault (1 to 15) to REFUSED, with its answer in NAME.answer beside it. What the journal cannot take\n"
+             "now (22 to 24) is left, and so is a file that waits for another with an earlier statement of an\n"
+             "account. No file is overwritten: a number is put behind its name.\n"
              "Names that begin with . or end in .part, .tmp, .filepart or ~ are files under way, and are left.\n"
              "\n"
              "Prints 'FILE: stored S, held H, moved to PATH' for each file, last 'JOURNAL: done D, refused R,\n"
-             "left L, stored S, held H' and 'JOURNAL: begins ACCOUNT DATE' for each account that is new.\n",
+             "left L, stored S, held H', 'JOURNAL: begins ACCOUNT DATE' for each account that is new, and\n"
+             "'JOURNAL: skips ACCOUNT DATE DATE' for each that goes on with a later day than it ended on.\n",
      .options = OPTION_GO_ON | OPTION_WAIT,
      .least = 4,
      .most = 4,
@@ -187,7 +189,8 @@ static const struct subcommand subcommands[] = {
      .operands = "JOURNAL COPY",
      .summary = "puts a copy in the place of the journal",
      .text = "Puts a copy that is sound and matches its checksum, COPY.sha256, in the place of the journal. What\n"
-             "stood there is kept beside it as JOURNAL.replaced-N. Deliver again what came since the copy.\n"
+             "stood there is kept beside it as JOURNAL.replaced-N. Deliver again what came since the copy, before\n"
+             "anything else.\n"
              "\n"
              "Prints 'JOURNAL: restored, entries E, lacking L, kept PATH', when it is safe on the disk. The copy\n"
              "lacks L statements of what was replaced, 'unknown' where that was not sound; where there was no\n"

@@ -6,6 +6,19 @@
 #include "say.h"
 #include "status.h"
 
+static const uint8_t *body_of(const struct bytes *journal, const struct entry *entry) {
+    return journal->first + CROWNHAZEL_CONTENTS + (size_t)CROWNHAZEL_RECORD * entry->first_line;
+}
+
+static void take_checksum(const struct bytes *journal, struct entry *entry) {
+    entry->checksum[0] = '\0';
+    if (gap_between(entry, entry) == 0) {
+        struct bytes body = {.first = (uint8_t *)body_of(journal, entry),
+                             .length = (size_t)CROWNHAZEL_RECORD * entry->records};
+        checksum_of(&body, entry->checksum);
+    }
+}
+
 /* Entry after entry, up to the first that there is not. */
 size_t list_entries(const struct bytes *journal, struct entry entries[CROWNHAZEL_MOST_ENTRIES]) {
     size_t count = 0;
@@ -17,6 +30,7 @@ size_t list_entries(const struct bytes *journal, struct entry entries[CROWNHAZEL
         }
         entry->first_line = crownhazel_first_line(listed);
         entry->records = crownhazel_records(listed);
+        take_checksum(journal, entry);
         count++;
     }
     return count;
@@ -57,9 +71,10 @@ bool same_account(const struct entry *one, const struct entry *other) {
     return memcmp(one->row, other->row, ROW_KEY) == 0;
 }
 
-bool has_row(const struct entry *entries, size_t count, const struct entry *entry) {
+bool has_statement(const struct entry *entries, size_t count, const struct entry *entry) {
     size_t at = 0;
-    while (at < count && memcmp(entries[at].row, entry->row, CROWNHAZEL_ROW) != 0) {
+    while (at < count && (memcmp(entries[at].row, entry->row, CROWNHAZEL_ROW) != 0 ||
+                          strcmp(entries[at].checksum, entry->checksum) != 0)) {
         at++;
     }
     return at < count;
@@ -105,11 +120,8 @@ void find_accounts(const struct contents *contents, struct accounts *accounts) {
 
 static bool same_body(const struct bytes *journal, const struct entry *entry, const struct bytes *other,
                       const struct entry *other_entry) {
-    const uint8_t *body = journal->first + CROWNHAZEL_CONTENTS + (size_t)CROWNHAZEL_RECORD * entry->first_line;
-    const uint8_t *other_body =
-        other->first + CROWNHAZEL_CONTENTS + (size_t)CROWNHAZEL_RECORD * other_entry->first_line;
     return entry->records == other_entry->records &&
-           memcmp(body, other_body, (size_t)CROWNHAZEL_RECORD * entry->records) == 0;
+           memcmp(body_of(journal, entry), body_of(other, other_entry), (size_t)CROWNHAZEL_RECORD * entry->records) == 0;
 }
 
 size_t lacking(const struct bytes *journal, const struct contents *contents, const struct bytes *other,

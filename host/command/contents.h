@@ -9,12 +9,14 @@
 #include "bytes.h"
 #include "cash.h"
 #include "crownhazel.h"
+#include "sha256.h"
 
 /* An entry of a journal. The row holds zones of fixed width, one after another. */
 struct entry {
     uint8_t row[CROWNHAZEL_ROW];
     uint32_t first_line;
     uint32_t records;
+    char checksum[CHECKSUM_DIGITS + 1]; /* of its body, where it begins and ends on one day; else none */
 };
 
 /* Where the zones of a row begin, and their widths: the account key, which is the first five, and the dates. */
@@ -46,9 +48,10 @@ int look_into(const char *name, struct bytes *journal, struct contents *contents
 /* Lists the entries of a sound journal, which is not tested again; their number. */
 size_t list_entries(const struct bytes *journal, struct entry entries[CROWNHAZEL_MOST_ENTRIES]);
 
-/* Whether two entries are of one account, and whether one among several has another's account and its dates. */
+/* Whether two entries are of one account, and whether one among several is of the very statement, as far as it could
+ * follow itself: of those of one day the bodies are compared, of others the dates are enough. */
 bool same_account(const struct entry *one, const struct entry *other);
-bool has_row(const struct entry *entries, size_t count, const struct entry *entry);
+bool has_statement(const struct entry *entries, size_t count, const struct entry *entry);
 
 /* Below 0 where one begins before another has ended, 0 where on that very day, above 0 where days lie between. */
 int gap_between(const struct entry *before, const struct entry *after);

@@ -17,6 +17,11 @@
 #include "status.h"
 #include "waiting.h"
 
+/* What an account ended with, and what it goes on with on a later day. */
+struct skip {
+    struct entry last, next;
+};
+
 /* One run: what it works on, and what has come of it so far. */
 struct night {
     const struct arguments *arguments;
@@ -29,7 +34,8 @@ struct night {
     uint64_t stored, held;                       /* statements */
     struct entry begun[CROWNHAZEL_MOST_ENTRIES]; /* the first entry of each account that began in this run */
     size_t begun_count;
-    size_t gaps; /* statements stored in this run that begin on a later day than their account's last one ended */
+    struct skip skips[CROWNHAZEL_MOST_ENTRIES]; /* where accounts have skipped days in this run */
+    size_t skip_count;
     int status;
     bool ended; /* nothing more is delivered */
 };
@@ -51,10 +57,11 @@ static void stop_at(struct night *night, struct waiting_file *file) {
 static void note_stored(struct night *night, size_t at) {
     const struct entry *entry = &night->known.entries[at];
     const struct entry *last = last_of_account(night->known.entries, at, entry);
-    if (last != NULL) {
-        night->gaps += gap_between(last, entry) > 0;
-    } else if (night->begun_count < CROWNHAZEL_MOST_ENTRIES) {
+    if (last == NULL && night->begun_count < CROWNHAZEL_MOST_ENTRIES) {
         night->begun[night->begun_count++] = *entry;
+    }
+    if (last != NULL && gap_between(last, entry) > 0 && night->skip_count < CROWNHAZEL_MOST_ENTRIES) {
+        night->skips[night->skip_count++] = (struct skip){*last, *entry};
     }
 }
 
@@ -247,9 +254,9 @@ static void tell_left(struct night *night) {
     }
 }
 
-/* A line for the files and their statements, and one for each account that has begun. */
+/* A line for the files and their statements, one for each account that has begun, and one wherever days were skipped. */
 static int tell_totals(const struct night *night) {
-    char key[KEY_FORM + 1], day[DAY_FORM + 1];
+    char key[KEY_FORM + 1], day[DAY_FORM + 1], next[DAY_FORM + 1];
     int status =
         answer(night->journal, "done %zu, refused %zu, left %zu, stored %" PRIu64 ", held %" PRIu64, night->done,
                night->refused, night->waiting.count - night->done - night->refused, night->stored, night->held);
@@ -258,11 +265,18 @@ static int tell_totals(const struct night *night) {
         spell_day(day_in(night->begun[i].row + ROW_OLD_DATE), day);
         status = worse(status, answer(night->journal, "begins %s %s", key, day));
     }
+    for (size_t i = 0; i < night->skip_count; i++) {
+        const struct skip *skip = &night->skips[i];
+        spell_key(skip->next.row, key);
+        spell_day(day_in(skip->last.row + ROW_NEW_DATE), day);
+        spell_day(day_in(skip->next.row + ROW_OLD_DATE), next);
+        status = worse(status, answer(night->journal, "skips %s %s %s", key, day, next));
+    }
     return status;
 }
 
-/* A file that the journal does not hold may have the first statement of an account that has begun without it, or one
- * that lies between two. */
+/* A file that the journal does not hold may have the first statement of an account that has begun without it, or what
+ * lies in days that one has skipped. */
 static void warn(const struct night *night) {
     size_t passed = night->waiting.count - night->delivered;
     if (night->begun_count > 0 && passed > 0) {
@@ -271,11 +285,11 @@ static void warn(const struct night *night) {
                  "them is earlier, for what comes before an account's first statement can never be stored",
                  passed);
     }
-    if (night->gaps > 0 && passed > 0) {
+    if (night->skip_count > 0 && passed > 0) {
         complain(night->journal,
-                 "accounts pass over days in this run (%zu times), and not all files are in the journal (%zu are not): "
-                 "look whether one of them lies between, for what an account has passed can never be stored",
-                 night->gaps, passed);
+                 "accounts skip days in this run, and not all files are in the journal (%zu are not): look whether one "
+                 "of them lies between, for what an account has skipped can never be stored",
+                 passed);
     }
 }
 

@@ -32,8 +32,8 @@ static bool take_part(struct bytes *journal, uint64_t line_end, const uint8_t *p
 enum { MOST_PARTS = 200 };
 
 /* Where a statement does not follow those before it, or is one too many for a journal, those before it are a file of
- * their own, and so is the rest. No file that brings an account forward has so many breaks: after the last part
- * nothing more is looked at. */
+ * their own, and so is the rest. A file with so many breaks says the same again and again, or can never be delivered:
+ * after the last part nothing more is looked at. */
 static bool take_parts(const struct input *input, struct bytes *journal, struct periods *periods) {
     size_t width = CROWNHAZEL_RECORD + (size_t)input->line_end;
     bool good = true;

@@ -215,12 +215,11 @@ static bool is_earlier(const struct entry *one, const struct entry *other) {
 }
 
 /* Whether one of two statements of an account has to be stored before the other, or never can be: it is the earlier,
- * and by its days it could be stored behind the last one. Where the other begins on the very day on which the last one
- * ends, no days are left out: it goes ahead, unless the earlier begins and ends on that day. */
+ * by its days it could be stored behind the last one, and the other would skip days. One that begins on the very day on
+ * which the last one ends goes ahead. */
 static bool comes_first(const struct entry *one, const struct entry *other, const struct entry *last) {
-    bool could_be_stored = last == NULL || gap_between(last, one) >= 0;
-    bool goes_ahead = last != NULL && gap_between(last, other) == 0 && gap_between(one, other) < 0;
-    return could_be_stored && !goes_ahead && is_earlier(one, other);
+    bool skips = last == NULL || (gap_between(last, one) >= 0 && gap_between(last, other) > 0);
+    return skips && is_earlier(one, other);
 }
 
 /* A statement in its turn, and what is stored by then: the journal's entries, and those before it in its file. */
@@ -245,9 +244,10 @@ static struct turn make_turn(const struct contents *journal, const struct period
     return turn;
 }
 
-/* Whether one of the same account and the same dates is stored by then. On a single day it could follow itself. */
+/* Whether a statement is stored by then. By its days one that begins and ends on the last day could follow itself. */
 static bool is_there(const struct turn *turn, const struct entry *entry) {
-    return has_row(turn->journal->entries, turn->journal->count, entry) || has_row(turn->own, turn->own_count, entry);
+    return has_statement(turn->journal->entries, turn->journal->count, entry) ||
+           has_statement(turn->own, turn->own_count, entry);
 }
 
 static bool has_earlier(const struct waiting_file *file, const struct turn *turn) {

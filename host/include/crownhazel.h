@@ -36,8 +36,8 @@ uint64_t crownhazel_check(uint64_t line_end, const uint8_t *file, size_t file_le
 uint64_t crownhazel_open(uint8_t *journal, size_t journal_len);
 
 /* Stores the statements of a file that the journal does not hold yet: all of them or, where it refuses, none. A
- * statement follows the last of its account on the day of its new date or later, with its new balance. So deliver the
- * oldest file first: what lies between two that are stored can never be stored. */
+ * statement follows the last of its account where it begins on the day of that one's new date or later, with that one's
+ * new balance. So deliver the oldest file first: what lies between two that are stored can never be stored. */
 uint64_t crownhazel_deliver(uint8_t *journal, size_t journal_len, uint64_t line_end, const uint8_t *file,
                             size_t file_len);
 

@@ -7,6 +7,7 @@ pub mod Storing
 pub mod Runs
 pub mod Delivered
 pub mod Series
+pub mod Skipped
 pub mod Accounts
 pub mod Latest
 pub mod Holdings

@@ -49,7 +49,7 @@ arrivals-append H (s ∷ A) B = by (heldAmong s H) (arrivals-append H A B) (arri
 -- ---- any delivery
 
 -- those of the accepted files come behind the statements held before, in order of first arrival
-held-along : (D : Deliver) (j : List ℕ) (H : List Statement) (es : List Event) → heldAlong D j H es ≡ H ++ arrivals H (accepted D j es)
+pub held-along : (D : Deliver) (j : List ℕ) (H : List Statement) (es : List Event) → heldAlong D j H es ≡ H ++ arrivals H (accepted D j es)
 unfolding heldAlong accepted arrivals
 held-along D j H [] = sym (append-nil H)
 held-along D j H (deliver f b ∷ es) =
@@ -119,7 +119,7 @@ chain-summed (s ∷ t ∷ ts) c w =
     ∙ ap (λ z. plus z (movementsIn (t ∷ ts))) (w .0 .valid .sum ∙ c .0 .balance)
     ∙ chain-summed (t ∷ ts) (c .1) (w .1)
 
-all-account : (k : Key) (L : List Statement) → All (Writable july) L → All (Writable july) (ofAccount k L)
+pub all-account : (k : Key) (L : List Statement) → All (Writable july) L → All (Writable july) (ofAccount k L)
 unfolding ofAccount
 all-account k [] w = tt
 all-account k (s ∷ L) w = by (sameKey (s .key) k) (all-account k L (w .1))

@@ -123,20 +123,46 @@ chain-there [] s M c = refl
 chain-there (x ∷ []) s M c = linked x s (c .0)
 chain-there (x ∷ y ∷ L) s M c = chain-there (y ∷ L) s M (c .1)
 
--- along a chain new dates never fall: a statement ends on its old date or later, and the next one begins there or later
-pub chain-never-falls : (L : List Statement) → Chained L → All (Writable july) L → NeverFalls L
-chain-never-falls [] c w = tt
-chain-never-falls (s ∷ []) c w = (tt, tt)
-chain-never-falls (s ∷ t ∷ ts) c w =
-    let i = chain-never-falls (t ∷ ts) (c .1) (w .1) in
+-- in turn: each later one begins on the day of the new date or later
+abbrev pub InTurn : List Statement → Type 0
+InTurn [] = Unit
+InTurn (s ∷ ss) = All (λ t. s .new-date ≤ t .old-date) ss × InTurn ss
+
+-- the next one begins there or later, and a statement ends on its old date or later
+pub chain-in-turn : (L : List Statement) → Chained L → All (Writable july) L → InTurn L
+chain-in-turn [] c w = tt
+chain-in-turn (s ∷ []) c w = (tt, tt)
+chain-in-turn (s ∷ t ∷ ts) c w =
+    let i = chain-in-turn (t ∷ ts) (c .1) (w .1) in
     let a = c .0 .date in
     let b = w .1 .0 .valid .dates in
     let d : s .new-date ≤ t .new-date = omega arith in
-    ((d, later ts (i .0) d), i)
+    ((a, later ts (i .0) d), i)
   where
-    later : {x y : ℕ} (ts : List Statement) → All (λ u. y ≤ u .new-date) ts → x ≤ y → All (λ u. x ≤ u .new-date) ts
+    later : {x y : ℕ} (ts : List Statement) → All (λ u. y ≤ u .old-date) ts → x ≤ y → All (λ u. x ≤ u .old-date) ts
     later [] h d = tt
     later (u ∷ ts) h d = let e = h .0 in (omega arith, later ts (h .1) d)
+
+-- so along a chain new dates never fall
+pub chain-never-falls : (L : List Statement) → Chained L → All (Writable july) L → NeverFalls L
+chain-never-falls L c w = ends L (chain-in-turn L c w) w
+  where
+    end : (x : ℕ) (ss : List Statement) → All (λ t. x ≤ t .old-date) ss → All (Writable july) ss → All (λ t. x ≤ t .new-date) ss
+    end x [] h w = tt
+    end x (t ∷ ts) h w = let a = h .0 in let b = w .0 .valid .dates in (omega arith, end x ts (h .1) (w .1))
+
+    ends : (L : List Statement) → InTurn L → All (Writable july) L → NeverFalls L
+    ends [] i w = tt
+    ends (s ∷ ss) i w = (end (s .new-date) ss (i .0) (w .1), ends ss (i .1) (w .1))
+
+-- and the last new date is the latest
+pub last-latest : (before : List Statement) (h : Statement) → NeverFalls (before ++ (h ∷ [])) → All (λ s. s .new-date ≤ h .new-date) before
+last-latest [] h n = tt
+last-latest (s ∷ ss) h n = (last ss (n .0), last-latest ss h (n .1))
+  where
+    last : {x : ℕ} (ss : List Statement) → All (λ t. x ≤ t .new-date) (ss ++ (h ∷ [])) → x ≤ h .new-date
+    last [] a = a .0
+    last (t ∷ ts) a = last ts (a .1)
 
 -- ---- both
 

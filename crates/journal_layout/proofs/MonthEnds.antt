@@ -1,15 +1,24 @@
--- WHAT FOLLOWS, AND WHAT DOES NOT ANY MORE: a new statement beside the last one of its account, in the paper's words; then the settled vectors.
+-- WHAT FOLLOWS: a new statement beside the last one of its account, in the paper's words; then the settled vectors.
 use mathlib.Core.Path.{_≡_, refl}
-use mathlib.Core.Bool.{true, false}
+use mathlib.Core.Bool.{Bool, true, false}
 use mathlib.Core.Logic.{_↔_}
 use mathlib.Core.List.{List, [], _∷_, _++_}
 use Prim.Native.Nat.{_<_}
-use lib.IntN.{pos}
+use Prim.Native.String.{String}
+use native.Mathlib.Omega.{arith}
+use lib.IntN.{ℤ, pos}
 use borrow.Author.Tests.{lt-leb}
+use Rattle.zones.specs.Class.{every}
+use Rattle.zones.specs.Number.{valueFrom}
+use Rattle.zones.specs.Text.{bytes}
+use Rattle.dates.specs.declared.Date.{Date}
+use Rattle.dates.specs.declared.Date.the-variants.{Day, NoDay}
+use Rattle.dates.specs.Days.{yearOf, daysIn, exists, dayOf, dateOf}
 use Rattle.grammar.specs.Statements.{Statement}
 use Rattle.journal_layout.specs.declared.Judgement.{Judgement}
 use Rattle.journal_layout.specs.declared.Judgement.the-variants.{First, After}
 use Rattle.journal_layout.specs.Chains.{heldAmong, judgementOf, followsBy, follows, Links, ofAccount}
+use Rattle.journal_layout.specs.Former.{FormerLinks}
 use Rattle.journal_layout.proofs.Chain.{last-account, last-snoc, links, linked}
 
 -- s is not held, and h is the last of its account
@@ -24,31 +33,44 @@ module _ (s : Statement) (ss before : List Statement) (h : Statement) (n : heldA
   unfolding judgementOf
   passed-over l = rw (n, last-account (s .key) First ss, o, last-snoc First before h, lt-leb (h .new-date) (s .old-date) l)
 
--- ---- the account's last ends on Friday, 28 November 2025, with 100
+-- ---- the account's last ends on Friday, 281125, with 100
 
 abbrev friday : Judgement
 friday = After 20251128 (pos 100)
 
-pub sunday : followsBy friday 20251130 (pos 100) ≡ true
-sunday = refl
+-- whether a statement follows it whose 01 has this date and this balance
+abbrev next : Date → ℤ → Bool
+next (Day k) a = followsBy friday k a
+next NoDay a = false
 
-pub same-day : followsBy friday 20251128 (pos 100) ≡ true
-same-day = refl
+abbrev Follows : String → ℤ → Bool → Type 0
+Follows date a answer = next (dateOf (bytes date)) a ≡ answer
 
--- 011225: a later day, though its bytes are less than 281125
-pub next-month : followsBy friday 20251201 (pos 100) ≡ true
-next-month = refl
+pub record Vectors : Type 0 where
+  pub sunday : Follows "301125" (pos 100) true
+  pub same-day : Follows "281125" (pos 100) true
+  -- a later day, though its bytes are less
+  pub next-month : Follows "011225" (pos 100) true
+  pub day-before : Follows "271125" (pos 100) false
+  -- an earlier day, though its bytes are greater
+  pub month-before : Follows "291025" (pos 100) false
+  -- in 1980
+  pub first-of-all : Follows "010180" (pos 100) false
+  pub other-balance : Follows "301125" (pos 101) false
 
-pub day-before : followsBy friday 20251127 (pos 100) ≡ false
-day-before = refl
+pub vectors : Vectors
+unfolding dateOf dayOf yearOf exists daysIn every valueFrom
+vectors =
+    record {
+      sunday = refl;
+      same-day = refl;
+      next-month = refl;
+      day-before = refl;
+      month-before = refl;
+      first-of-all = refl;
+      other-balance = refl;
+    }
 
--- 291025: an earlier day, though its bytes are greater
-pub month-before : followsBy friday 20251029 (pos 100) ≡ false
-month-before = refl
-
--- 010180: years are from 1980 to 2079
-pub first-day-of-all : followsBy friday 19800101 (pos 100) ≡ false
-first-day-of-all = refl
-
-pub other-balance : followsBy friday 20251130 (pos 101) ≡ false
-other-balance = refl
+-- the link is wider than it was: from Friday to Sunday
+pub not-former : (s t : Statement) → s .new-date ≡ 20251128 → t .old-date ≡ 20251130 → FormerLinks s t → ⊥
+not-former s t p q l = let d = l .date in omega arith

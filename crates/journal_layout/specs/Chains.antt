@@ -38,7 +38,7 @@ followsBy (After date balance) d a = leb date d && sameAmount balance a
 abbrev pub follows : Statement → List Statement → Bool
 follows s hs = followsBy (judgementOf s hs) (s .old-date) (s .old-balance)
 
--- THE CHAIN: each statement of an account links to the one before it. It begins on the day of its new date or later, with its new balance.
+-- THE CHAIN: each statement of an account links to the one before it. It begins on the day of that one's new date or later, with that one's new balance.
 pub record Links (s t : Statement) : Type 0 where
   pub date : s .new-date ≤ t .old-date
   pub balance : s .new-balance ≡ t .old-balance

@@ -105,7 +105,7 @@ fn judge(journal: &[u8], line_end: u64, file: &[u8]) -> Result<Judged, Refusal> 
     let statements = statements(line_end, file)?;
     let line_length = RECORD + line_end as usize;
     for statement in &statements {
-        let new = to_be_held(statement, file, line_length);
+        let new = one_to_be_held(statement, file, line_length);
         if is_held(&judged.after, &new) {
             judged.held += 1;
             continue;
@@ -118,8 +118,18 @@ fn judge(journal: &[u8], line_end: u64, file: &[u8]) -> Result<Judged, Refusal> 
     Ok(judged)
 }
 
+/// The statements of a file as the journal would hold them, or the check's refusal.
+pub fn to_be_held(line_end: u64, file: &[u8]) -> Result<Vec<Held>, Refusal> {
+    let statements = statements(line_end, file)?;
+    let line_length = RECORD + line_end as usize;
+    let held = statements
+        .iter()
+        .map(|statement| one_to_be_held(statement, file, line_length));
+    Ok(held.collect())
+}
+
 /// A statement of an accepted file as the journal would hold it, without line ends.
-fn to_be_held(statement: &Statement, file: &[u8], line_length: usize) -> Held {
+fn one_to_be_held(statement: &Statement, file: &[u8], line_length: usize) -> Held {
     let place = statement.place;
     let part = &file[place.first..place.first + place.length];
     let records: Vec<&[u8]> = part

@@ -4,9 +4,9 @@
 use std::collections::{BTreeMap, BTreeSet};
 
 use crate::check::RECORD;
-use crate::delivery::{deliver, Delivered};
-use crate::journal::{held, Held};
-use crate::read::{statements, Refusal};
+use crate::delivery::{deliver, to_be_held, Delivered};
+use crate::journal::{held, last_of, Held};
+use crate::read::Refusal;
 
 /// Names with these ends belong to files that have not arrived whole.
 const UNFINISHED: [&str; 4] = [".part", ".tmp", ".filepart", "~"];
@@ -37,6 +37,15 @@ pub struct Begun {
     pub date: u32,
 }
 
+/// An account that skipped days in the night: its key as in an entry, the last new balance date, and
+/// the old balance date with which it went on.
+#[derive(Clone, Debug, PartialEq, Eq)]
+pub struct Skipped {
+    pub key: Vec<u8>,
+    pub from: u32,
+    pub to: u32,
+}
+
 /// How a night ends.
 #[derive(Clone, Debug, PartialEq, Eq)]
 pub struct Night {
@@ -47,6 +56,8 @@ pub struct Night {
     pub ignored: BTreeSet<String>,
     /// In order of first arrival.
     pub begun: Vec<Begun>,
+    /// In the order in which they were stored.
+    pub skipped: Vec<Skipped>,
     /// How many files each round got done.
     pub rounds: Vec<usize>,
 }
@@ -56,64 +67,40 @@ struct Waiting<'a> {
     name: &'a str,
     bytes: &'a [u8],
     line_end: u64,
-    /// What its statements are for, in file order; none for a refused file.
-    periods: Vec<Period>,
-}
-
-/// The account of a statement and the days that it goes from and to.
-#[derive(Clone, PartialEq)]
-struct Period {
-    key: Vec<u8>,
-    old_date: u32,
-    new_date: u32,
+    /// Its statements as the journal would hold them, in file order; none for a refused file.
+    statements: Vec<Held>,
 }
 
 impl<'a> Waiting<'a> {
     fn new(file: &'a Incoming) -> Waiting<'a> {
         let line_end = found_line_end(&file.bytes);
-        let statements = statements(line_end, &file.bytes).unwrap_or_default();
-        let periods = statements.iter().map(|statement| Period {
-            key: statement.head.key.bytes(),
-            old_date: statement.head.old_date,
-            new_date: statement.head.new_date,
-        });
         Waiting {
             name: &file.name,
             bytes: &file.bytes,
             line_end,
-            periods: periods.collect(),
+            statements: to_be_held(line_end, &file.bytes).unwrap_or_default(),
         }
     }
 
     /// The earliest of its old balance dates, 0 where it has none.
     fn date(&self) -> u32 {
-        let dates = self.periods.iter().map(|period| period.old_date);
+        let dates = self.statements.iter().map(|statement| statement.old_date);
         dates.min().unwrap_or(0)
     }
 }
 
-impl Period {
-    fn of(held: &Held) -> Period {
-        Period {
-            key: held.key.clone(),
-            old_date: held.old_date,
-            new_date: held.new_date,
-        }
-    }
-
-    /// Whether this one has to be stored before the other, which is of the same account, lest it
-    /// never be. The account's last new date before the other is known, if there is one.
-    fn has_precedence(&self, other: &Period, last: Option<u32>) -> bool {
-        let is_earlier = (self.old_date, self.new_date) < (other.old_date, other.new_date);
-        is_earlier
-            && last.map_or(true, |last| {
-                // What begins before the last new date is too early already. What begins on it
-                // leaves no days out; only one that ends on it too comes before that.
-                let may_be_stored = self.old_date >= last;
-                let leaves_days_out = other.old_date > last;
-                may_be_stored && (leaves_days_out || self.new_date <= other.old_date)
-            })
-    }
+/// Whether one statement has to be stored before another of the same account, lest it never be. The
+/// account's last new date before the other is known, if there is one.
+fn has_precedence(one: &Held, other: &Held, last: Option<u32>) -> bool {
+    let is_earlier = (one.old_date, one.new_date) < (other.old_date, other.new_date);
+    is_earlier
+        && last.map_or(true, |last| {
+            // What begins before the last new date is too early already. What begins on it skips no
+            // days, and goes ahead.
+            let may_be_stored = one.old_date >= last;
+            let skips_days = other.old_date > last;
+            may_be_stored && skips_days
+        })
 }
 
 /// Delivers what waits to a sound journal, round after round while that gets a file done.
@@ -130,6 +117,7 @@ pub fn night(journal: &[u8], incoming: &[Incoming]) -> Night {
     }
     Night {
         begun: begun(journal, &after),
+        skipped: skipped(journal, &after),
         journal: after,
         fates,
         ignored: ignored.iter().map(|file| file.name.clone()).collect(),
@@ -189,19 +177,19 @@ fn is_held_back(waiting: &[Waiting], place: usize, journal: &[u8]) -> bool {
     for statement in &list {
         note(&mut latest, &statement.key, statement.new_date);
     }
-    // What has the days of one that is held, or stands before it in the file, is taken for that one.
-    let mut there: Vec<Period> = list.iter().map(Period::of).collect();
-    for period in &waiting[place].periods {
-        let last = latest.get(&period.key[..]).copied();
+    let mut there: Vec<&Held> = list.iter().collect();
+    for statement in &waiting[place].statements {
+        let last = latest.get(&statement.key[..]).copied();
         let others = (0..waiting.len()).filter(|&other| other != place);
+        // What is held, or stands before it in its file, is no reason to wait.
         let mut of_account = others
-            .flat_map(|other| &waiting[other].periods)
-            .filter(|other| other.key == period.key && !there.contains(other));
-        if of_account.any(|other| other.has_precedence(period, last)) {
+            .flat_map(|other| &waiting[other].statements)
+            .filter(|other| other.key == statement.key && !there.contains(other));
+        if of_account.any(|other| has_precedence(other, statement, last)) {
             return true;
         }
-        note(&mut latest, &period.key, period.new_date);
-        there.push(period.clone());
+        note(&mut latest, &statement.key, statement.new_date);
+        there.push(statement);
     }
     false
 }
@@ -237,4 +225,24 @@ fn begun(before: &[u8], after: &[u8]) -> Vec<Begun> {
         }
     }
     begun
+}
+
+/// What the second journal holds more than the first, and what begins on a later day than the last
+/// of its account ended.
+fn skipped(before: &[u8], after: &[u8]) -> Vec<Skipped> {
+    let list = |journal| held(journal).expect("the journals of a night are sound");
+    let (first, all) = (list(before).len(), list(after));
+    let mut skipped = Vec::new();
+    for (index, new) in all.iter().enumerate().skip(first) {
+        if let Some(last) = last_of(&all[..index], &new.key) {
+            if last.new_date < new.old_date {
+                skipped.push(Skipped {
+                    key: new.key.clone(),
+                    from: last.new_date,
+                    to: new.old_date,
+                });
+            }
+        }
+    }
+    skipped
 }

@@ -4,7 +4,7 @@ use std::fs;
 use std::io;
 use std::path::Path;
 
-use crate::night::{night, Begun, Fate, Night};
+use crate::night::{night, Begun, Fate, Night, Skipped};
 use crate::night_cases::{night_case, NightCase};
 
 /// Writes so many nights as DIR/000 and on; none of the folders may be there. Gives a line a night,
@@ -44,7 +44,7 @@ fn write_night(folder: &Path, case: &NightCase, night: &Night) -> io::Result<()>
 }
 
 /// What is expected beside the journal, by the names of the files that say it.
-pub fn expected(night: &Night) -> [(&'static str, String); 7] {
+pub fn expected(night: &Night) -> [(&'static str, String); 8] {
     [
         ("done", names(night, |fate| matches!(fate, Fate::Done(_)))),
         (
@@ -54,6 +54,7 @@ pub fn expected(night: &Night) -> [(&'static str, String); 7] {
         ("left", names(night, is_left)),
         ("ignored", lines(night.ignored.iter().cloned())),
         ("begun", lines(night.begun.iter().map(begun_line))),
+        ("skipped", lines(night.skipped.iter().map(skipped_line))),
         ("totals", format!("{}\n", totals(night))),
         ("status", format!("{}\n", status(night))),
     ]
@@ -75,9 +76,24 @@ fn names(night: &Night, ends_so: fn(&Fate) -> bool) -> String {
     lines(found.map(|(name, _)| name.clone()))
 }
 
-/// Bank, branch, currency, decimals, account; then the date.
+/// The account; then the date.
 fn begun_line(begun: &Begun) -> String {
-    let key = String::from_utf8_lossy(&begun.key);
+    format!("{} {}", key_text(&begun.key), date_text(begun.date))
+}
+
+/// The account; then the day it ended on and the day it goes on with.
+fn skipped_line(skipped: &Skipped) -> String {
+    let key = key_text(&skipped.key);
+    format!(
+        "{key} {} {}",
+        date_text(skipped.from),
+        date_text(skipped.to)
+    )
+}
+
+/// Bank, branch, currency, decimals, account.
+fn key_text(key: &[u8]) -> String {
+    let key = String::from_utf8_lossy(key);
     let zones = [
         &key[..5],
         &key[5..10],
@@ -85,9 +101,13 @@ fn begun_line(begun: &Begun) -> String {
         &key[13..14],
         &key[14..],
     ];
-    let (year, rest) = (begun.date / 10_000, begun.date % 10_000);
+    zones.join("-")
+}
+
+fn date_text(date: u32) -> String {
+    let (year, rest) = (date / 10_000, date % 10_000);
     let (month, day) = (rest / 100, rest % 100);
-    format!("{} {year}-{month:02}-{day:02}", zones.join("-"))
+    format!("{year}-{month:02}-{day:02}")
 }
 
 /// Numbers of files, and of statements in those that are done.

@@ -91,6 +91,16 @@ fn held(journal: &[u8]) -> Vec<(&[u8], &[u8])> {
     held.collect()
 }
 
+/// Old and new balance date of each, YYYYMMDD, as its body says.
+fn dates(body: &[u8]) -> [u32; 2] {
+    let last = body.len() - 120;
+    [34, last + 34].map(|at| {
+        let [day, month, year] = [at, at + 2, at + 4].map(|at| digits(&body[at..at + 2]));
+        let century = if year < 80 { 2_000 } else { 1_900 };
+        (10_000 * (century + year) + 100 * month + day) as u32
+    })
+}
+
 /// What a chain holds in the end, given room: the records of each statement as they are stored.
 fn stored(chain: &Chain) -> Vec<Vec<u8>> {
     let statements = chain.end.iter().map(|&month| &chain.statements[month]);
@@ -249,6 +259,32 @@ fn accounts_begin_with_their_earliest() {
         assert_eq!(said.collect::<BTreeMap<_, _>>(), begun);
     }
     assert!(begin > 200 && wait > 80, "{begin} {wait}");
+}
+
+/// Days that are skipped are those between the last new date of an account and a later old date of
+/// what was stored behind it.
+#[test]
+fn days_are_skipped() {
+    let mut skipped = 0;
+    for (case, night) in all_nights() {
+        let before = held(&case.journal).len();
+        let mut last = BTreeMap::new();
+        let mut expected = Vec::new();
+        for (index, (key, body)) in held(&night.journal).into_iter().enumerate() {
+            let [old, new] = dates(body);
+            match last.insert(key, new) {
+                Some(end) if index >= before && end != old => {
+                    expected.push((key.to_vec(), end, old))
+                }
+                _ => {}
+            }
+        }
+        skipped += expected.len();
+        let said = night.skipped.iter();
+        let said = said.map(|one| (one.key.clone(), one.from, one.to));
+        assert_eq!(said.collect::<Vec<_>>(), expected);
+    }
+    assert!(skipped > 60, "{skipped}");
 }
 
 /// With what is left alone, one more night changes nothing, and each file is left as it was.

@@ -640,6 +640,10 @@ fn a_dormant_month_is_passed_over() {
     assert_eq!(first.rounds, [2]);
     let after = [held, month(A, MARCH), month(A, APRIL)];
     assert_holds(&first, &after);
+    assert_eq!(
+        text(&first, "skipped"),
+        "12345-00010-EUR-2-0000000000A 2025-01-31 2025-02-28\n"
+    );
     let second = run(&first.journal, &[("z", month(A, FEBRUARY))]);
     assert_eq!(second.rounds, [0]);
     assert_eq!(second.fates["z"], left(22, 1));
@@ -703,11 +707,14 @@ fn on_the_very_day_of_the_last() {
     assert_eq!(night.rounds, [1, 0]);
     assert_eq!(night.fates["b"], left(22, 1));
     assert_holds(&night, &[held.clone(), february.clone()]);
-    let one_day = period(A, "310125", "310125");
-    let files = [("a", february.clone()), ("b", one_day.clone())];
+    let files = [
+        ("a", february.clone()),
+        ("b", period(A, "310125", "310125")),
+    ];
     let night = run(&before, &files);
-    assert_eq!(night.rounds, [1, 1]);
-    assert_holds(&night, &[held.clone(), one_day, february]);
+    assert_eq!(night.rounds, [1, 0]);
+    assert_eq!(night.fates["b"], left(22, 1));
+    assert_holds(&night, &[held.clone(), february]);
     // A day later the fortnight comes first, and then the other is too early.
     let late = period(A, "010225", "280225");
     let files = [("a", late), ("b", fortnight.clone())];
@@ -718,19 +725,19 @@ fn on_the_very_day_of_the_last() {
 }
 
 /// One that begins and ends on the day of the last could follow itself: a copy holds nothing back,
-/// whether it is held or stands in the file itself.
+/// whether it is held or stands in the file itself. Another one of that day does.
 #[test]
 fn copies_of_a_single_day() {
     let one_day = period(A, "310125", "310125");
-    let february = month(A, FEBRUARY);
-    let both = one_day.clone().then(february.clone());
+    let late = period(A, "020225", "280225");
+    let both = one_day.clone().then(late.clone());
     let files = [("a", both.clone()), ("b", both.clone())];
     let night = run(&journal(9, &[]), &files);
     assert_eq!(night.fates["a"], done(2, 0));
     assert_eq!(night.fates["b"], done(0, 2));
     let stuck = one_day.clone().then(busy_month(B, MARCH));
     let held = [one_day.clone(), busy_month(B, JANUARY)];
-    let files = [("a", stuck.clone()), ("b", february.clone())];
+    let files = [("a", stuck.clone()), ("b", late.clone())];
     let night = run(&journal(20, &held), &files);
     assert_eq!(night.fates["a"], left(22, 3));
     assert_eq!(night.fates["b"], done(1, 0));
@@ -738,6 +745,13 @@ fn copies_of_a_single_day() {
     let night = run(&journal(20, &held[1..]), &files);
     assert_eq!(night.fates["a"], left(22, 3));
     assert_eq!(night.fates["b"], done(2, 0));
+    let nothing = movement("05", "310125", "310125", "0000000000000{").clone();
+    let other = one_day.with(2, nothing).set(2, 22, A);
+    let files = [("a", month(B, JANUARY).then(late)), ("b", other)];
+    let night = run(&journal(20, &held[..1]), &files);
+    assert_eq!(night.rounds, [1, 1]);
+    assert_eq!(night.fates["a"], done(2, 0));
+    assert_eq!(night.fates["b"], done(1, 0));
 }
 
 /// What stands before a statement in its own file counts as if it were held.
