@@ -68,11 +68,22 @@ static bool add_names(DIR *names, const struct folder *incoming, struct waiting 
     return errno == 0;
 }
 
-/* The oldest first; those of one day by their names. */
+/* By the old date, then by the new one. Both stand as digits, the year first. */
+static bool is_earlier(const struct entry *one, const struct entry *other) {
+    return memcmp(one->row + ROW_OLD_DATE, other->row + ROW_OLD_DATE, CROWNHAZEL_ROW - ROW_OLD_DATE) < 0;
+}
+
+/* The oldest first; of those that begin on one day the one whose earliest statement ends first; else by their names. */
 static int compare(const void *one, const void *other) {
     const struct waiting_file *file = one, *second = other;
     if (file->day != second->day) {
         return file->day < second->day ? -1 : 1;
+    }
+    if (file->earliest != NULL && second->earliest != NULL) {
+        bool before = is_earlier(file->earliest, second->earliest);
+        if (before || is_earlier(second->earliest, file->earliest)) {
+            return before ? -1 : 1;
+        }
     }
     return strcmp(file->path, second->path);
 }
@@ -123,11 +134,15 @@ static bool read_file(const char *path, int descriptor, struct stat *status, str
 /* Its date and its statements. */
 static bool take_dates(struct waiting_file *file, const struct input *input) {
     file->day = earliest_day(input);
-    if (file->day == 0 || find_periods(input, &file->periods)) {
-        return true;
+    if (file->day != 0 && !find_periods(input, &file->periods)) {
+        failed(file->path, "cannot be read");
+        return false;
     }
-    failed(file->path, "cannot be read");
-    return false;
+    for (size_t i = 0; i < file->periods.count; i++) {
+        const struct entry *entry = &file->periods.list[i];
+        file->earliest = file->earliest == NULL || is_earlier(entry, file->earliest) ? entry : file->earliest;
+    }
+    return true;
 }
 
 /* Reads one for its dates. */
@@ -207,11 +222,6 @@ bool was_changed(const struct waiting_file *file, int descriptor) {
     const struct stat *then = &file->status;
     return fstat(descriptor, &now) != 0 || !is_as_it_was(then, &now) || then->st_ctim.tv_sec != now.st_ctim.tv_sec ||
            then->st_ctim.tv_nsec != now.st_ctim.tv_nsec;
-}
-
-/* By the old date, then by the new one. Both stand as digits, the year first. */
-static bool is_earlier(const struct entry *one, const struct entry *other) {
-    return memcmp(one->row + ROW_OLD_DATE, other->row + ROW_OLD_DATE, CROWNHAZEL_ROW - ROW_OLD_DATE) < 0;
 }
 
 /* Whether one of two statements of an account has to be stored before the other, or never can be: it is the earlier,

@@ -17,9 +17,10 @@ enum fate { WAITS, PASSED_OVER, MOVED };
 
 struct waiting_file {
     char *path;
-    struct stat status;     /* as it was when the run began */
-    uint64_t day;           /* the earliest old balance date in it; 0 where there is none */
-    struct periods periods; /* its statements; none where it is refused */
+    struct stat status;           /* as it was when the run began */
+    uint64_t day;                 /* the earliest old balance date in it; 0 where there is none */
+    struct periods periods;       /* its statements; none where it is refused */
+    const struct entry *earliest; /* of these; NULL where there is none */
     enum fate fate;
     const struct waiting_file *behind; /* the file that it has to wait for; NULL where there is none */
     uint64_t refusal;                  /* what the journal said last; 0 where it was not asked */

@@ -82,10 +82,11 @@ impl<'a> Waiting<'a> {
         }
     }
 
-    /// The earliest of its old balance dates, 0 where it has none.
-    fn date(&self) -> u32 {
-        let dates = self.statements.iter().map(|statement| statement.old_date);
-        dates.min().unwrap_or(0)
+    /// Old and new balance date of its earliest statement, 0 where it has none.
+    fn dates(&self) -> (u32, u32) {
+        let statements = self.statements.iter();
+        let dates = statements.map(|statement| (statement.old_date, statement.new_date));
+        dates.min().unwrap_or((0, 0))
     }
 }
 
@@ -110,7 +111,7 @@ pub fn night(journal: &[u8], incoming: &[Incoming]) -> Night {
     let mut after = journal.to_vec();
     let mut fates = BTreeMap::new();
     let mut waiting: Vec<Waiting> = taken.into_iter().map(Waiting::new).collect();
-    waiting.sort_by_key(|file| (file.date(), file.name.as_bytes()));
+    waiting.sort_by_key(|file| (file.dates(), file.name.as_bytes()));
     let mut rounds = Vec::new();
     while !waiting.is_empty() && rounds.last() != Some(&0) {
         rounds.push(round(&mut after, &mut waiting, &mut fates));

@@ -462,9 +462,16 @@ fn of_one_day_the_shorter_first() {
     let january = month(A, JANUARY);
     let files = [("a", january.clone()), ("b", opening.clone())];
     let night = run(&journal(9, &[]), &files);
+    assert_eq!(night.rounds, [2]);
+    assert_holds(&night, &[opening.clone(), january.clone()]);
+    // The file with the longer one comes first: it is held back.
+    let two = month(B, DECEMBER).then(january);
+    let night = run(
+        &journal(9, &[]),
+        &[("a", two.clone()), ("b", opening.clone())],
+    );
     assert_eq!(night.rounds, [1, 1]);
-    assert_eq!(night.fates["a"], done(1, 0));
-    assert_holds(&night, &[opening, january]);
+    assert_holds(&night, &[opening, two]);
 }
 
 /// What can no longer be stored holds nothing back: December waits in vain, February follows. What
@@ -694,27 +701,25 @@ fn months_that_close_early() {
     assert!(night.journal == before);
 }
 
-/// What begins on the very day of the last new date leaves no day out: it goes ahead of a shorter
-/// one that begins on that day, and waits only for one that ends on it too.
+/// What begins on the very day of the last new date skips no day: it waits for nothing. Of files that
+/// begin on one day the one whose earliest ends first has its turn first.
 #[test]
 fn on_the_very_day_of_the_last() {
     let held = month(A, JANUARY);
     let before = journal(9, std::slice::from_ref(&held));
     let february = month(A, FEBRUARY);
     let fortnight = period(A, "310125", "140225");
-    let files = [("a", february.clone()), ("b", fortnight.clone())];
+    let stuck = fortnight.clone().then(busy_month(A, MARCH));
+    let files = [("a", february.clone()), ("b", stuck)];
     let night = run(&before, &files);
     assert_eq!(night.rounds, [1, 0]);
     assert_eq!(night.fates["b"], left(22, 1));
     assert_holds(&night, &[held.clone(), february.clone()]);
-    let files = [
-        ("a", february.clone()),
-        ("b", period(A, "310125", "310125")),
-    ];
+    let one_day = period(A, "310125", "310125");
+    let files = [("a", february.clone()), ("b", one_day.clone())];
     let night = run(&before, &files);
-    assert_eq!(night.rounds, [1, 0]);
-    assert_eq!(night.fates["b"], left(22, 1));
-    assert_holds(&night, &[held.clone(), february]);
+    assert_eq!(night.rounds, [2]);
+    assert_holds(&night, &[held.clone(), one_day, february]);
     // A day later the fortnight comes first, and then the other is too early.
     let late = period(A, "010225", "280225");
     let files = [("a", late), ("b", fortnight.clone())];
