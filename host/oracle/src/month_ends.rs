@@ -4,7 +4,7 @@
 
 use crate::record::{put, write_amount, RECORD};
 use crate::series_cases::{Script, SeriesCase, Write, TABLE};
-use crate::worked_account::{file, statement, with, Records, KEY};
+use crate::worked_account::{deliver, newest, statement, with, Records, KEY};
 
 /// A Friday that closes a November, and the Sunday with which its December opens.
 const FRIDAY: &str = "281125";
@@ -33,14 +33,6 @@ const SERIES: [(&str, Write); 10] = [
 /// All series.
 pub fn series() -> Vec<SeriesCase> {
     SERIES.into_iter().map(SeriesCase::fixed).collect()
-}
-
-fn deliver(script: &mut Script, line_end: u64, statements: &[Records]) {
-    script.deliver_bytes(line_end, &file(statements, line_end));
-}
-
-fn newest(script: &mut Script, line_end: u64, statements: &[Records]) {
-    script.newest_bytes(line_end, KEY, &file(statements, line_end));
 }
 
 /// An amount as it stands in a record.

@@ -1,6 +1,7 @@
 //! Statements of the worked account with blank free zones, as the vectors have them.
 
 use crate::record::{plain, put};
+use crate::series_cases::Script;
 use crate::valid::Draft;
 
 /// The account's key, as in an entry.
@@ -61,6 +62,16 @@ pub fn draft(records: &[Vec<u8>], line_end: u64) -> Draft {
 }
 
 /// A file of these statements.
-pub fn file(statements: &[Records], line_end: u64) -> Vec<u8> {
+fn file(statements: &[Records], line_end: u64) -> Vec<u8> {
     draft(&statements.concat(), line_end).bytes()
+}
+
+/// Delivers a file of these statements.
+pub fn deliver(script: &mut Script, line_end: u64, statements: &[Records]) {
+    script.deliver_bytes(line_end, &file(statements, line_end));
+}
+
+/// Asks for the newest statement of the account with such a file.
+pub fn newest(script: &mut Script, line_end: u64, statements: &[Records]) {
+    script.newest_bytes(line_end, KEY, &file(statements, line_end));
 }

@@ -4,7 +4,7 @@ use super::{nothing, quiet, with_texts};
 use super::{CREDIT, DEBIT, FEBRUARY, MARCH, MINUS_SEVEN, MINUS_TEN, SEVEN, TEXTS};
 use crate::record::RECORD;
 use crate::series_cases::{Script, SeriesCase, Write, TABLE};
-use crate::worked_account::{file, statement, with, Records, KEY};
+use crate::worked_account::{deliver, newest, statement, with, Records};
 
 const SERIES: [(&str, Write); 6] = [
     ("N3-texts", texts),
@@ -18,14 +18,6 @@ const SERIES: [(&str, Write); 6] = [
 /// All series.
 pub fn series() -> Vec<SeriesCase> {
     SERIES.into_iter().map(SeriesCase::fixed).collect()
-}
-
-fn deliver(script: &mut Script, line_end: u64, statements: &[Records]) {
-    script.deliver_bytes(line_end, &file(statements, line_end));
-}
-
-fn newest(script: &mut Script, line_end: u64, statements: &[Records]) {
-    script.newest_bytes(line_end, KEY, &file(statements, line_end));
 }
 
 /// Statements of one day that differ in a text alone are several. Each is held in any writing.
