@@ -1,26 +1,24 @@
 -- The numbers of every answer keep their bounds, for any journal, line-end number, file and length.
 use mathlib.Core.Path.{_≡_, refl}
-use mathlib.Core.Bool.{Bool, true, false, not, _&&_, _||_, false≢true}
+use mathlib.Core.Bool.{Bool, true, false, not, _&&_, _||_}
 use mathlib.Core.List.{List, [], _∷_, _++_, map}
 use Prim.Native.Nat.{ℕ, zero, suc, _+_, _-_, _*_, _/_, _%_, _<_, _≤_}
 use native.Mathlib.Omega.{arith}
 use lib.Dec.{eqb, leb, ltb}
-use lib.ListN.{length-map, length, take, getD, length-append}
-use borrow.Author.Tests.{eqb-true, ltb-true, ltb-false}
+use lib.ListN.{length-map, length, getD, length-append}
+use borrow.Author.Tests.{ltb-true, ltb-false}
 use Rattle.zones.specs.Choice.{pick}
-use Rattle.zones.proofs.Bools.{and-left, and-right}
 use Rattle.dates.specs.Ordinals.{lastDay}
 use Rattle.framing.specs.declared.Form.{Form}
 use Rattle.framing.specs.declared.Frame.the-variants as F
 use Rattle.framing.specs.Files.{widthOf, countOf, unknownEnd}
 use Rattle.framing.specs.Frames.{frameBy}
-use Rattle.framing.proofs.Cuts.{length-chunks}
 use Rattle.grammar.specs.Answer as G
-use Rattle.grammar.specs.Answer.{Rule, isRuled, Counts, Answer, first, cut, whole}
+use Rattle.grammar.specs.Answer.{Counts, Answer, first, cut, whole}
 use Rattle.grammar.specs.Record.{Rec, opening, movement, complement, closing, Edition}
-use Rattle.grammar.specs.Since.{sinceOpening, tally}
+use Rattle.grammar.specs.Since.{tally}
 use Rattle.grammar.specs.Statements.{Statement, recordsOf, allRecords, countsOf}
-use Rattle.grammar.specs.Files.{recOf, pieces, Reads, checkOf, statementsOf, rulesAfter, appliesIn, Ruled, line, multiple, many, records}
+use Rattle.grammar.specs.Files.{recOf, pieces, Reads, checkOf, statementsOf, Ruled, line, multiple, many, records}
 use Rattle.grammar.specs.Parts.{sizeOf, recordsBefore, noStatement}
 use Rattle.grammar.proofs.Parts.{length-one}
 use Rattle.records.specs.July.{recordSize, mostInFile, codingOf, editionOf}
@@ -29,6 +27,7 @@ use Rattle.dates.specs.Days.{isDay}
 use Rattle.dates.proofs.Months.{month-days}
 use Rattle.dates.proofs.Ordinals.{parts, part-month}
 use Rattle.statements.specs.Answers.{checkedOf}
+use Rattle.statements.proofs.Numbers.{count-pieces, applied}
 use Rattle.readers.specs.declared.Place.{Place}
 use Rattle.readers.specs.declared.Place.the-variants as P
 use Rattle.contents.specs.Earliest.{earliestOf, beginningBy, beginningOf}
@@ -48,24 +47,10 @@ use Rattle.journal_layout.proofs.Listing.{listed as place-listed}
 use Rattle.journal.specs.declared.Verdict.the-variants.{Hold, Store, Refuse}
 use Rattle.journal.specs.Delivery.{refusal, notNext, isHeld, verdictOf, Outcome, refused, proceed, run, linesIn, outcomeOf}
 use Rattle.journal.specs.Answers.{answerOf}
-use Rattle.collector.specs.Bounds.{lastRefusal, RefusalBounds, Body, Lines, CheckBounds, OpeningBounds, DeliveryBounds, EntryBounds, ListedBounds, UsageBounds, LengthBounds, BeginningBounds}
+use Rattle.collector.specs.Bounds.{RefusalBounds, Body, Lines, CheckBounds, OpeningBounds, DeliveryBounds, EntryBounds, ListedBounds, UsageBounds, LengthBounds, BeginningBounds}
 use Rattle.collector.specs.Answers.{form, openAnswer, listedBy, listedAnswer, lengthAnswer}
 
 -- ---- the check
-
--- numbers of the list of refusals, behind the three of a file's length
-abbrev Listed : List Rule → Type 0
-Listed [] = Unit
-Listed (x ∷ xs) = ((4 ≤ x .number) × (x .number ≤ lastRefusal)) × Listed xs
-
-listed : (k : ℕ) (xs : List Rule) → Listed xs → isRuled k xs ≡ true → (4 ≤ k) × (k ≤ lastRefusal)
-listed k [] l h = absurd (false≢true h)
-listed k (x ∷ xs) l h = by (x .applies) (eqb (x .number) k) refl h (listed k xs (l .1))
-  where
-    by : (t u : Bool) → eqb (x .number) k ≡ u → (t && u || isRuled k xs) ≡ true → (isRuled k xs ≡ true → (4 ≤ k) × (k ≤ lastRefusal)) → (4 ≤ k) × (k ≤ lastRefusal)
-    by true true e g ih = let z = eqb-true (x .number) k e in (omega arith, omega arith)
-    by true false e g ih = ih g
-    by false u e g ih = ih g
 
 -- each record counts once at most
 tally-most : (rs : List Rec) → tally rs .statements + tally rs .movements + tally rs .complements ≤ length rs
@@ -77,33 +62,17 @@ tally-most (complement e t ∷ rs) = let h = tally-most rs in omega arith
 tally-most (closing k d b ∷ rs) = let h = tally-most rs in omega arith
 
 module _ (f : Form) (b : List ℕ) where
-  count-pieces : length (pieces (codingOf f) f b) ≡ countOf recordSize f b
-  count-pieces = length-chunks (widthOf recordSize f) (countOf recordSize f b) b
-
-  -- what applies to a record
-  pub record Applied (k i : ℕ) : Type 0 where
-    pub behind : 4 ≤ k
-    pub listed-there : k ≤ lastRefusal
-    pub within : i < length (pieces (codingOf f) f b)
-
-  pub applied : {k i : ℕ} → appliesIn (codingOf f) f (pieces (codingOf f) f b) k i ≡ true → Applied k i
-  unfolding appliesIn
-  applied {k} {i} h =
-      let ps = pieces (codingOf f) f b in
-      let rules = rulesAfter (codingOf f) f (sinceOpening (map (recOf (codingOf f)) (take i ps))) (getD ps i []) in
-      let z = listed k rules (omega arith) (and-right (ltb i (length ps)) (isRuled k rules) h) in
-      record { behind = z .0; listed-there = z .1; within = ltb-true i (length ps) (and-left (ltb i (length ps)) (isRuled k rules) h) }
-
   bounded : {a : Answer} → Ruled (codingOf f) f b a → CheckBounds (checkedOf a)
   bounded (line p e) = rw e (record { some = omega arith; listed = omega arith; near = omega arith })
   bounded (multiple p q e) = rw e (record { some = omega arith; listed = omega arith; near = omega arith })
   bounded (many p q r e) = rw e (record { some = omega arith; listed = omega arith; near = omega arith })
   bounded (records p q r (first k i h e)) =
       let few = ltb-false mostInFile (countOf recordSize f b) r in
-      let z = applied (h .here) in
+      let z = applied f b (h .here) in
       let y = z .behind in
+      let v = z .listed-there in
       let x = z .within in
-      rw e (record { some = omega arith; listed = z .listed-there; near = omega (arith, count-pieces) })
+      rw e (record { some = omega arith; listed = omega arith; near = omega (arith, count-pieces f b) })
   bounded (records p q r (cut n i e)) =
       let few = ltb-false mostInFile (countOf recordSize f b) r in
       rw e (record { some = omega arith; listed = omega arith; near = omega arith })
@@ -114,9 +83,9 @@ module _ (f : Form) (b : List ℕ) where
       let l = length-map (pieces (codingOf f) f b) (recOf (codingOf f)) in
       rw e
       (record {
-        few-statements = omega (arith, count-pieces);
-        few-movements = omega (arith, count-pieces);
-        few-complements = omega (arith, count-pieces);
+        few-statements = omega (arith, count-pieces f b);
+        few-movements = omega (arith, count-pieces f b);
+        few-complements = omega (arith, count-pieces f b);
       })
 
   pub check-bounds : CheckBounds (checkedOf (checkOf (codingOf f) f b))

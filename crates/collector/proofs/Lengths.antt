@@ -21,9 +21,10 @@ use Rattle.records.specs.July.{recordSize, mostInFile, codingOf}
 use Rattle.records.proofs.Theorems.{ruled}
 use Rattle.statements.specs.Answers.{checkedOf, paperCheck}
 use Rattle.statements.proofs.Framed.{framed}
+use Rattle.statements.proofs.Numbers.{applied}
 use Rattle.collector.specs.Packing.{packedCheck, packedLength}
 use Rattle.collector.specs.Answers.{form, lengthAnswer, CheckNumber, LengthNumber}
-use Rattle.collector.proofs.Bounds.{length-bounds, applied}
+use Rattle.collector.proofs.Bounds.{length-bounds}
 use Rattle.collector.proofs.Packing.{records-fits}
 
 module _ (e : ℕ) (b : List ℕ) where

@@ -4,5 +4,6 @@ pub mod Judging
 pub mod Loop
 pub mod Framed
 pub mod Paper
+pub mod Numbers
 pub mod Demand
 pub mod One
