@@ -75,7 +75,9 @@ static const struct subcommand subcommands[] = {
              "is refused, none. - is standard input. A file can be delivered again at any time. Name the oldest\n"
              "first: what lies before a stored statement of the same account can never be stored after it.\n"
              "\n"
-             "Prints 'FILE: stored S, held H' for each file, when its statements are safe on the disk.\n",
+             "Prints 'FILE: stored S, held H' for each file, when its statements are safe on the disk. Of one\n"
+             "that does not follow (22) it says what was expected: the date and the balance that its account\n"
+             "ends with, and whether a statement is missing, one was corrected, or it can never follow.\n",
      .options = OPTION_LINE_END | OPTION_WAIT,
      .least = 2,
      .most = SIZE_MAX,
@@ -87,9 +89,9 @@ static const struct subcommand subcommands[] = {
      .summary = "delivers the files of a folder and puts them away",
      .text = "Delivers the files that wait in the folder INCOMING, those with the earliest old balance date first,\n"
              "in rounds as long as files are stored or held. Moves these to DONE, and what is refused by its own\n"
-             "fault (1 to 15) to REFUSED, with its answer in NAME.answer beside it. What the journal cannot take\n"
-             "now (22 to 24) is left, and so is a file that waits for another with an earlier statement of an\n"
-             "account. No file is overwritten: a number is put behind its name.\n"
+             "fault (1 to 15) or can never follow (22) to REFUSED, with its answer in NAME.answer beside it. What\n"
+             "the journal cannot take now (22 to 24) is left, and so is a file that waits for another with an\n"
+             "earlier statement of an account. No file is overwritten: a number is put behind its name.\n"
              "Names that begin with . or end in .part, .tmp, .filepart or ~ are files under way, and are left.\n"
              "\n"
              "Prints 'FILE: stored S, held H, moved to PATH' for each file, last 'JOURNAL: done D, refused R,\n"

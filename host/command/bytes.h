@@ -36,7 +36,7 @@ bool close_after(bool good, int descriptor);
 /* What writes a text, of whatever it is handed. */
 typedef void text_writer(FILE *out, const void *what);
 
-/* Takes the whole text that is written. */
+/* Takes the whole text that is written. A byte 0 stands behind it. */
 bool take_text(text_writer *writer, const void *what, struct bytes *text);
 
 void let_go(struct bytes *bytes);

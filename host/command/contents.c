@@ -120,8 +120,9 @@ void find_accounts(const struct contents *contents, struct accounts *accounts) {
 
 static bool same_body(const struct bytes *journal, const struct entry *entry, const struct bytes *other,
                       const struct entry *other_entry) {
+    size_t length = (size_t)CROWNHAZEL_RECORD * entry->records;
     return entry->records == other_entry->records &&
-           memcmp(body_of(journal, entry), body_of(other, other_entry), (size_t)CROWNHAZEL_RECORD * entry->records) == 0;
+           memcmp(body_of(journal, entry), body_of(other, other_entry), length) == 0;
 }
 
 size_t lacking(const struct bytes *journal, const struct contents *contents, const struct bytes *other,

@@ -29,6 +29,14 @@ static int keep(struct place *place, const struct bytes *journal, uint64_t deliv
     return crownhazel_held(delivered) > 0 ? settle_journal(place) : STATUS_DONE;
 }
 
+/* The refused delivery has left the journal as it was. */
+static int look_for_expected(const struct bytes *journal, const struct input *input, struct delivered *delivered) {
+    delivered->count = list_entries(journal, delivered->entries);
+    return find_expected(journal, delivered->entries, delivered->count, input, delivered->answer, &delivered->expected)
+               ? STATUS_DONE
+               : failed(input->name, "what was expected cannot be said");
+}
+
 /* Delivers to a copy of the journal in memory. The locks are held, and let go before anything is said of the file. */
 static int deliver_held(struct place *place, struct bytes *journal, const struct input *input,
                         struct delivered *delivered) {
@@ -36,7 +44,7 @@ static int deliver_held(struct place *place, struct bytes *journal, const struct
     delivered->lines = lines_of(journal);
     delivered->count = 0;
     if (crownhazel_is_refused(delivered->answer)) {
-        return STATUS_DONE;
+        return crownhazel_refusal(delivered->answer) == 22 ? look_for_expected(journal, input, delivered) : STATUS_DONE;
     }
     delivered->count = list_entries(journal, delivered->entries);
     return keep(place, journal, delivered->answer);
@@ -73,7 +81,7 @@ static int deliver_file(const struct arguments *arguments, const char *name) {
         return status;
     }
     if (crownhazel_is_refused(delivered.answer)) {
-        return refused_by(name, delivered.answer, arguments->operands[0], delivered.lines);
+        return refused_delivery(name, delivered.answer, arguments->operands[0], delivered.lines, &delivered.expected);
     }
     return answer(name, "stored %" PRIu32 ", held %" PRIu32, crownhazel_stored(delivered.answer),
                   crownhazel_held(delivered.answer));

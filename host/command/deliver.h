@@ -4,14 +4,16 @@
 
 #include "arguments.h"
 #include "contents.h"
+#include "expected.h"
 #include "input.h"
 
 /* What a delivery has said and done. */
 struct delivered {
     uint64_t answer;                               /* the library's, a refusal too */
     size_t lines;                                  /* of the journal */
-    struct entry entries[CROWNHAZEL_MOST_ENTRIES]; /* the journal's, what was stored last; none on a refusal */
+    struct entry entries[CROWNHAZEL_MOST_ENTRIES]; /* the journal's, what was stored last; none on a refusal but 22 */
     size_t count;
+    struct expected expected; /* with 22 */
 };
 
 /* Delivers a file to the journal that the first operand names. Answers STATUS_DONE, where all that was stored or held

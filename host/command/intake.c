@@ -95,38 +95,65 @@ static void put_to_done(struct night *night, struct waiting_file *file, int desc
     free(moved);
 }
 
+/* A refused file's answer, and where the file went; NULL where it was not moved. */
+struct put_away {
+    const struct delivered *delivered;
+    const char *moved;
+};
+
+/* What was expected, where that is known, with something behind it. */
+static void write_expected_with(FILE *out, const struct delivered *delivered, const char *behind) {
+    if (crownhazel_refusal(delivered->answer) == 22) {
+        write_expected(out, &delivered->expected);
+        fprintf(out, "%s", behind);
+    }
+}
+
 /* The line that stands beside a refused file. */
 static void write_answer(FILE *out, const void *what) {
-    const uint64_t *refusal = what;
-    fprintf(out, "refused with %" PRIu32 " at record %" PRIu32 ": %s\n", crownhazel_refusal(*refusal),
-            crownhazel_record(*refusal), crownhazel_words(crownhazel_refusal(*refusal)));
+    const struct delivered *delivered = what;
+    uint32_t number = crownhazel_refusal(delivered->answer);
+    fprintf(out, "refused with %" PRIu32 " at record %" PRIu32 ": %s", number, crownhazel_record(delivered->answer),
+            crownhazel_words(number));
+    fprintf(out, "%s", number == 22 ? "; " : "");
+    write_expected_with(out, delivered, "");
+    fprintf(out, "\n");
 }
 
-/* Where a refused file went, in words, which are the caller's to free; NULL where there is no memory. */
-static char *words_of_move(const char *moved) {
-    char *words = NULL;
-    return asprintf(&words, "%s%s", moved == NULL ? "it was not moved" : "moved to ", moved == NULL ? "" : moved) < 0
-               ? NULL
-               : words;
+/* What is said of it. */
+static void write_move(FILE *out, const void *what) {
+    const struct put_away *put_away = what;
+    write_expected_with(out, put_away->delivered, "; ");
+    fprintf(out, "%s%s", put_away->moved == NULL ? "it was not moved" : "moved to ",
+            put_away->moved == NULL ? "" : put_away->moved);
 }
 
-/* Refused by the file's own fault, which is said wherever the file is then. It has no statement, so it shuts nothing
- * out. */
-static void put_to_refused(struct night *night, struct waiting_file *file, int descriptor, uint64_t refusal) {
-    struct bytes beside;
+/* Refused by the file's own fault, or for ever, which is said wherever the file is then. Nothing of it can be stored,
+ * so it shuts nothing out. */
+static void put_to_refused(struct night *night, struct waiting_file *file, int descriptor,
+                           const struct delivered *delivered) {
+    struct bytes beside, words = {0};
     char *moved = NULL;
-    if (!take_text(write_answer, &refusal, &beside)) {
+    if (!take_text(write_answer, delivered, &beside)) {
         pass_over(night, file, failed(file->path, "no memory for the answer"));
         return;
     }
     int status = move_to_refused(&night->folders, file->path, descriptor, &beside, &moved);
-    char *where = words_of_move(moved);
+    struct put_away put_away = {delivered, moved};
+    bool told = take_text(write_move, &put_away, &words);
     night->refused += moved != NULL;
-    pass_over(night, file, worse(status, refused_for(file->path, refusal, where == NULL ? "" : where)));
+    refused_for(file->path, delivered->answer, told ? (const char *)words.first : "");
+    pass_over(night, file, worse(status, STATUS_FILE_REFUSED));
     file->fate = moved == NULL ? PASSED_OVER : MOVED;
-    free(where);
     free(moved);
+    let_go(&words);
     let_go(&beside);
+}
+
+/* Whether the file does not follow, and nothing of it ever can. */
+static bool is_refused_for_ever(const struct waiting_file *file, const struct delivered *delivered) {
+    return crownhazel_refusal(delivered->answer) == 22 &&
+           holds_nothing_new(file, delivered->entries, delivered->count);
 }
 
 /* What the library has said of a file decides where it goes. */
@@ -136,13 +163,15 @@ static void put_away(struct night *night, struct waiting_file *file, int descrip
     int status = crownhazel_is_refused(answer) ? status_of_refusal(crownhazel_refusal(answer)) : STATUS_DONE;
     if (status == STATUS_DONE) {
         put_to_done(night, file, descriptor, delivered);
-    } else if (status == STATUS_FILE_REFUSED) {
-        put_to_refused(night, file, descriptor, answer);
+    } else if (status == STATUS_FILE_REFUSED || is_refused_for_ever(file, delivered)) {
+        put_to_refused(night, file, descriptor, delivered);
     } else if (status == STATUS_JOURNAL_REFUSES) {
         file->refusal = answer;
         file->lines = delivered->lines;
+        file->expected = delivered->expected;
     } else {
-        night->status = worse(night->status, refused_by(file->path, answer, night->journal, delivered->lines));
+        status = refused_delivery(file->path, answer, night->journal, delivered->lines, &delivered->expected);
+        night->status = worse(night->status, status);
         night->ended = true;
     }
 }
@@ -242,6 +271,16 @@ static int tell_behind(const struct night *night, const struct waiting_file *fil
     return STATUS_JOURNAL_REFUSES;
 }
 
+/* One that can never follow stands beside others, or the file would have been put away. */
+static int tell_refused(const struct night *night, const struct waiting_file *file) {
+    int status = refused_delivery(file->path, file->refusal, night->journal, file->lines, &file->expected);
+    if (crownhazel_refusal(file->refusal) == 22 && file->expected.why == CAN_NEVER_FOLLOW) {
+        complain(file->path,
+                 "it is left: other statements in it may still be stored; ask the bank for them without that one");
+    }
+    return status;
+}
+
 /* What cannot be taken now is said once, when no round will change it. */
 static void tell_left(struct night *night) {
     for (size_t i = 0; i < night->waiting.count; i++) {
@@ -249,12 +288,13 @@ static void tell_left(struct night *night) {
         if (file->fate == WAITS && file->behind != NULL) {
             night->status = worse(night->status, tell_behind(night, file));
         } else if (file->fate == WAITS && file->refusal != 0) {
-            night->status = worse(night->status, refused_by(file->path, file->refusal, night->journal, file->lines));
+            night->status = worse(night->status, tell_refused(night, file));
         }
     }
 }
 
-/* A line for the files and their statements, one for each account that has begun, and one wherever days were skipped. */
+/* A line for the files and their statements, one for each account that has begun, and one wherever days were skipped.
+ */
 static int tell_totals(const struct night *night) {
     char key[KEY_FORM + 1], day[DAY_FORM + 1], next[DAY_FORM + 1];
     int status =

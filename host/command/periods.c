@@ -19,6 +19,10 @@ static bool add(struct periods *periods, const struct entry *entries, size_t cou
     return true;
 }
 
+static size_t width_of(const struct input *input) {
+    return CROWNHAZEL_RECORD + (size_t)input->line_end;
+}
+
 /* There is no reader of records here: a part of the file is delivered to a blank journal in memory, whose entries say
  * what stands in it. */
 static bool take_part(struct bytes *journal, uint64_t line_end, const uint8_t *part, size_t length,
@@ -31,13 +35,14 @@ static bool take_part(struct bytes *journal, uint64_t line_end, const uint8_t *p
 
 enum { MOST_PARTS = 200 };
 
-/* Where a statement does not follow those before it, or is one too many for a journal, those before it are a file of
- * their own, and so is the rest. A file with so many breaks says the same again and again, or can never be delivered:
- * after the last part nothing more is looked at. */
-static bool take_parts(const struct input *input, struct bytes *journal, struct periods *periods) {
-    size_t width = CROWNHAZEL_RECORD + (size_t)input->line_end;
+/* The statements from a byte on, in so many parts at most. Where a statement does not follow those before it, or is one
+ * too many for a journal, those before it are a file of their own, and so is the rest. A file with so many breaks says
+ * the same again and again, or can never be delivered: after the last part nothing more is looked at. */
+static bool take_parts(const struct input *input, size_t at, size_t most, struct bytes *journal,
+                       struct periods *periods) {
+    size_t width = width_of(input);
     bool good = true;
-    for (size_t at = 0, parts = 0; good && at < input->kept.length && parts < MOST_PARTS; parts++) {
+    for (size_t parts = 0; good && at < input->kept.length && parts < most; parts++) {
         uint64_t answer;
         const uint8_t *rest = input->kept.first + at;
         size_t length = input->kept.length - at;
@@ -48,10 +53,12 @@ static bool take_parts(const struct input *input, struct bytes *journal, struct 
         }
         at += length;
     }
+    periods->whole = at >= input->kept.length;
     return good;
 }
 
-bool find_periods(const struct input *input, struct periods *periods) {
+/* The same, with a blank journal for the longest part. */
+static bool find_parts(const struct input *input, size_t at, size_t most, struct periods *periods) {
     struct bytes journal = {0};
     *periods = (struct periods){0};
     size_t records = input->kept.length / CROWNHAZEL_RECORD;
@@ -59,9 +66,24 @@ bool find_periods(const struct input *input, struct periods *periods) {
     bool found = make_room(&journal, length);
     if (found) {
         journal.length = length;
-        found = take_parts(input, &journal, periods);
+        found = take_parts(input, at, most, &journal, periods);
     }
     let_go(&journal);
+    return found;
+}
+
+bool find_periods(const struct input *input, struct periods *periods) {
+    return find_parts(input, 0, MOST_PARTS, periods);
+}
+
+/* It is the first of the part that begins there: nothing stands in its way in a blank journal. */
+bool find_statement(const struct input *input, uint32_t record, struct entry *statement) {
+    struct periods periods;
+    bool found = find_parts(input, (record - 1) * width_of(input), 1, &periods) && periods.count > 0;
+    if (found) {
+        *statement = periods.list[0];
+    }
+    forget_periods(&periods);
     return found;
 }
 

@@ -94,7 +94,6 @@ int refused_for(const char *name, uint64_t answer, const char *why) {
 static const char *advice(uint32_t number, size_t lines) {
     switch (number) {
     case 21: return "'crownhazel restore' puts its last copy in its place; never open it anew";
-    case 22: return "a statement between is missing, a later one was stored before this one, or this one corrects one that is held";
     case 23: return "it has all its statements: " KEEP_IT;
     case 24:
         return lines < CROWNHAZEL_MOST_LINES ? "'crownhazel grow' gives it more lines; then deliver again"

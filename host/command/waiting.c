@@ -224,6 +224,18 @@ bool was_changed(const struct waiting_file *file, int descriptor) {
            then->st_ctim.tv_nsec != now.st_ctim.tv_nsec;
 }
 
+bool holds_nothing_new(const struct waiting_file *file, const struct entry *entries, size_t count) {
+    for (size_t i = 0; i < file->periods.count; i++) {
+        const struct entry *entry = &file->periods.list[i];
+        const struct entry *last = last_of_account(entries, count, entry);
+        bool too_early = last != NULL && gap_between(last, entry) < 0;
+        if (!too_early && !has_statement(entries, count, entry)) {
+            return false;
+        }
+    }
+    return file->periods.whole;
+}
+
 /* Whether one of two statements of an account has to be stored before the other, or never can be: it is the earlier,
  * by its days it could be stored behind the last one, and the other would skip days. One that begins on the very day on
  * which the last one ends goes ahead. */

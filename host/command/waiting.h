@@ -7,6 +7,7 @@
 #include <stdint.h>
 #include <sys/stat.h>
 
+#include "expected.h"
 #include "folders.h"
 #include "input.h"
 #include "periods.h"
@@ -25,6 +26,7 @@ struct waiting_file {
     const struct waiting_file *behind; /* the file that it has to wait for; NULL where there is none */
     uint64_t refusal;                  /* what the journal said last; 0 where it was not asked */
     size_t lines;                      /* of the journal then */
+    struct expected expected;          /* by it, where that is 22 */
 };
 
 /* Begins with find_waiting, ends with forget_waiting. */
@@ -48,6 +50,10 @@ bool open_waiting(struct waiting_file *file, struct input *input, int *descripto
  * never can be, the journal holding what it does; NULL where there is none. */
 const struct waiting_file *waits_behind(const struct waiting *waiting, const struct waiting_file *file, size_t at,
                                         const struct contents *journal);
+
+/* Whether nothing of a file can ever be stored in a journal with these entries: each of its statements is held, or
+ * begins before its account ends there. */
+bool holds_nothing_new(const struct waiting_file *file, const struct entry *entries, size_t count);
 
 /* Whether it has been written to since it was opened so. */
 bool was_changed(const struct waiting_file *file, int descriptor);

@@ -76,9 +76,19 @@ static int refused(const char *call, uint64_t answer) {
     return REFUSED;
 }
 
+/* Prints where the account of a statement that does not follow ends: so the bank can be asked for what lies between. */
+static void print_expected(uint64_t line_end, const struct bytes *file) {
+    uint64_t date = crownhazel_expected_date(journal, sizeof journal, line_end, file->first, file->length);
+    int64_t balance = crownhazel_expected_balance(journal, sizeof journal, line_end, file->first, file->length);
+    if (date != 0) {
+        fprintf(stderr, "example: expected %" PRIu64 " with %" PRId64 "\n", date, balance);
+    }
+}
+
 static int deliver(uint64_t line_end, const struct bytes *file) {
     uint64_t answer = crownhazel_deliver(journal, sizeof journal, line_end, file->first, file->length);
     if (crownhazel_is_refused(answer)) {
+        print_expected(line_end, file);
         return refused("delivery", answer);
     }
     printf("stored %" PRIu32 ", held %" PRIu32 "\n", crownhazel_stored(answer), crownhazel_held(answer));

@@ -1,4 +1,5 @@
-/* The collector's way into the proved library: functions that each answer one 64-bit number.
+/* The collector's way into the proved library: functions that each answer one 64-bit number. Of a delivery's answer two
+ * more functions give what was expected.
  *
  * Duties of the caller. They are trusted; nothing in the library can test them.
  *  - A pointer is valid for the length given with it: readable, and writable where it is not const.
@@ -40,6 +41,15 @@ uint64_t crownhazel_open(uint8_t *journal, size_t journal_len);
  * new balance. So deliver the oldest file first: what lies between two that are stored can never be stored. */
 uint64_t crownhazel_deliver(uint8_t *journal, size_t journal_len, uint64_t line_end, const uint8_t *file,
                             size_t file_len);
+
+/* Say what was expected of a file that is refused with 22, asked with the same journal and file, before the delivery or
+ * after it: the new date of the last statement of the refused one's account, YYYYMMDD, and its new balance, as the
+ * delivery then sees them, those of statements stored earlier from the same file included. Both are 0 for every other
+ * answer; a balance can also be 0 beside a 22, a date cannot. They change nothing. */
+uint64_t crownhazel_expected_date(const uint8_t *journal, size_t journal_len, uint64_t line_end, const uint8_t *file,
+                                  size_t file_len);
+int64_t crownhazel_expected_balance(const uint8_t *journal, size_t journal_len, uint64_t line_end, const uint8_t *file,
+                                    size_t file_len);
 
 /* Says where the body of an entry stands. Entries are numbered from 1, in order of first arrival. */
 uint64_t crownhazel_entry(const uint8_t *journal, size_t journal_len, uint64_t entry);

@@ -235,20 +235,50 @@ static bool run_listed(struct source *source, const struct place *place, struct 
     return same;
 }
 
-/* A file of no bytes changes no journal, so that it can be delivered in both ways. */
+/* What was expected of a file: asked with the journal as it is, which stays so. */
+struct expectation {
+    uint64_t date;
+    int64_t balance;
+};
+
+static struct expectation take_expectation(struct source *source) {
+    uint64_t date = take_number(source, 8);
+    return (struct expectation){date, (int64_t)take_number(source, 8)};
+}
+
+static bool is_expected(const struct place *place, const char *when, struct expectation expected,
+                        struct slice journal, const uint8_t *lent_journal, uint64_t line_end, struct slice file,
+                        const uint8_t *lent_file) {
+    uint64_t before = hash(journal);
+    struct expectation came = {
+        crownhazel_expected_date(lent_journal, journal.length, line_end, lent_file, file.length),
+        crownhazel_expected_balance(lent_journal, journal.length, line_end, lent_file, file.length)};
+    bool same = came.date == expected.date && came.balance == expected.balance;
+    if (!same && begin_difference(place)) {
+        printf("asked %s the delivery: expected %" PRIu64 " with %" PRId64 ", came %" PRIu64 " with %" PRId64 "\n",
+               when, expected.date, expected.balance, came.date, came.balance);
+    }
+    return is_journal(place, before, journal) && same;
+}
+
+/* A file of no bytes changes no journal, so that it can be delivered in both ways. What was expected is asked before
+ * the delivery and after it. */
 static bool run_delivery(struct source *source, const struct place *place, struct slice journal) {
     uint64_t line_end = take_number(source, 8);
     struct slice file = take_file(source);
     struct answer expected = take_answer(source);
+    struct expectation expectation = take_expectation(source);
     uint64_t after = take_number(source, 8);
     bool same = true;
     memcpy(file_copy, file.first, file.length);
     for (unsigned way = 0; way < ways(journal) * ways(file) && !source->broken; way++) {
         uint8_t *lent_journal = lent(journal, way % ways(journal));
         uint8_t *lent_file = lent(file, way / ways(journal));
+        same &= is_expected(place, "before", expectation, journal, lent_journal, line_end, file, lent_file);
         uint64_t came = crownhazel_deliver(lent_journal, journal.length, line_end, lent_file, file.length);
         same &= is_answer(place, expected, came);
         same &= is_journal(place, after, journal);
+        same &= is_expected(place, "after", expectation, journal, lent_journal, line_end, file, lent_file);
         same &= is_file(place, file);
     }
     return same;

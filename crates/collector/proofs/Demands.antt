@@ -2,6 +2,7 @@
 use mathlib.Core.Path.{_≡_, refl, sym, _∙_}
 use mathlib.Core.List.{List}
 use Prim.Native.Nat.{ℕ}
+use lib.IntN.{ℤ}
 use Rattle.framing.specs.declared.Form.{Form}
 use Rattle.framing.specs.Files.{lineEnd}
 use Rattle.grammar.specs.Files.{checkOf, Ruled}
@@ -20,7 +21,7 @@ use Rattle.journal.proofs.Paper.{delivers, delivery-apart}
 use Rattle.journal.proofs.Paper as J
 use Rattle.journal.proofs.Series.{deliver-demand3}
 use Rattle.collector.specs.Packing.{paperCheckIn, paperDeliveryIn}
-use Rattle.collector.specs.Answers.{form, CheckNumber, OpenNumber, DeliverNumber}
+use Rattle.collector.specs.Answers.{form, CheckNumber, OpenNumber, DeliverNumber, ExpectedDate, ExpectedBalance}
 use Rattle.collector.proofs.Bounds.{check-bounds, delivery-bounds}
 use Rattle.collector.proofs.Packing.{check-numbered, delivery-numbered, check-unpacked, deliver-unpacked}
 
@@ -34,14 +35,19 @@ pub number-demand2 : (check : ℕ → List ℕ → ℕ) → ((e : ℕ) (b : List
     → Demand2 codingOf (λ f b. answerOf (checkedBy (paperCheckIn (check (lineEnd f) b))))
 number-demand2 check c = check-demand2 (λ f b. checkedBy (paperCheckIn (check (lineEnd f) b))) (λ f b. checks (check-unpacked (c (lineEnd f) b)))
 
--- opening and delivering: each call's number, and the journal that it leaves
-pub number-demand3 : (opening : List ℕ → ℕ) (opened : List ℕ → List ℕ) (delivery : List ℕ → ℕ → List ℕ → ℕ) (delivered : List ℕ → ℕ → List ℕ → List ℕ)
-    → ((j : List ℕ) → OpenNumber j (opening j) (opened j))
-    → ((j : List ℕ) (e : ℕ) (b : List ℕ) → DeliverNumber j e b (delivery j e b) (delivered j e b))
-    → Demand3 opened (λ j f b. record { answer = deliveryBy (paperDeliveryIn (delivery j (lineEnd f) b)); journal = delivered j (lineEnd f) b })
-number-demand3 opening opened delivery delivered o d =
-    deliver-demand3 opened (λ j f b. record { answer = deliveryBy (paperDeliveryIn (delivery j (lineEnd f) b)); journal = delivered j (lineEnd f) b }) (λ j. o j .content)
-    (λ j f b. delivers (deliver-unpacked (d j (lineEnd f) b)) (d j (lineEnd f) b .content))
+-- opening and delivering: each call's number, what was expected, and the journal that it leaves
+module _ (opening : List ℕ → ℕ) (opened : List ℕ → List ℕ) (delivery : List ℕ → ℕ → List ℕ → ℕ) (delivered : List ℕ → ℕ → List ℕ → List ℕ) (date : List ℕ → ℕ → List ℕ → ℕ) (balance : List ℕ → ℕ → List ℕ → ℤ) where
+  abbrev pub answered : List ℕ → Form → List ℕ → Delivery
+  answered j f b = deliveryBy (paperDeliveryIn (delivery j (lineEnd f) b) (date j (lineEnd f) b) (balance j (lineEnd f) b))
+
+  pub number-demand3 : ((j : List ℕ) → OpenNumber j (opening j) (opened j))
+      → ((j : List ℕ) (e : ℕ) (b : List ℕ) → DeliverNumber j e b (delivery j e b) (delivered j e b))
+      → ((j : List ℕ) (e : ℕ) (b : List ℕ) → ExpectedDate j e b (date j e b))
+      → ((j : List ℕ) (e : ℕ) (b : List ℕ) → ExpectedBalance j e b (balance j e b))
+      → Demand3 opened (λ j f b. record { answer = answered j f b; journal = delivered j (lineEnd f) b })
+  number-demand3 o d x y =
+      deliver-demand3 opened (λ j f b. record { answer = answered j f b; journal = delivered j (lineEnd f) b }) (λ j. o j .content)
+      (λ j f b. delivers (deliver-unpacked (d j (lineEnd f) b) (x j (lineEnd f) b) (y j (lineEnd f) b)) (d j (lineEnd f) b .content))
 
 -- ---- the paper's record alone: an answer that has it, and whose refusal has a number, meets the contract
 

@@ -4,6 +4,7 @@ use mathlib.Core.List.{List}
 use Prim.Native.Nat.{ℕ, _-_, _*_, _/_, _%_, _≤_}
 use native.Mathlib.Omega.{arith}
 use lib.Dec.{eqb}
+use lib.IntN.{ℤ}
 use borrow.Author.Tests.{ne-eqb}
 use mathlib.Core.Bool.{false}
 use Rattle.dates.specs.Ordinals.{lastDay}
@@ -39,7 +40,7 @@ use Rattle.journal.specs.Answers.{paperDelivery, deliveryBy}
 use Rattle.journal.proofs.Paper as J
 use Rattle.collector.specs.Packing.{packedCheck, packedOpening, packedDelivery, packedEntry, packedUsage, packedLength, packedBeginning, paperCheckIn, paperOpeningIn, paperDeliveryIn, paperPlaceIn, paperUsageIn, paperLengthIn, packedDay, paperBeginningIn}
 use Rattle.collector.specs.Bounds.{RefusalBounds, Counted, Told, Body, Lines, Filled, CheckBounds, OpeningBounds, DeliveryBounds, EntryBounds, ListedBounds, UsageBounds, LengthBounds, BeginningBounds}
-use Rattle.collector.specs.Answers.{form, checkAnswer, openAnswer, deliverAnswer, listedAnswer, lengthAnswer, earliestAnswer, CheckNumber, OpenNumber, DeliverNumber, EntryNumber, UsedNumber, ListedNumber, LengthNumber, EarliestNumber}
+use Rattle.collector.specs.Answers.{form, checkAnswer, openAnswer, deliverAnswer, listedAnswer, lengthAnswer, earliestAnswer, CheckNumber, OpenNumber, DeliverNumber, ExpectedDate, ExpectedBalance, EntryNumber, UsedNumber, ListedNumber, LengthNumber, EarliestNumber}
 use Rattle.collector.proofs.Bounds.{check-bounds, opening-bounds, delivery-bounds, entry-bounds, listed-bounds, usage-bounds, length-bounds, earliest-bounds}
 
 -- ---- numbers within their bounds fit
@@ -110,7 +111,8 @@ pub opening-back : (r : Opening) → OpeningBounds r → paperOpeningIn (packedO
 opening-back O.Opened k = refl
 opening-back (O.Refused n r) k = let f = refusal-fits k in rw (numbered k, kind-back f, a-back f, b-back f)
 
-pub delivery-back : (r : Delivery) → DeliveryBounds r → paperDeliveryIn (packedDelivery (paperDelivery r)) ≡ paperDelivery r
+pub delivery-back : (r : Delivery) → DeliveryBounds r
+    → paperDeliveryIn (packedDelivery (paperDelivery r)) (paperDelivery r .expected-date) (paperDelivery r .expected-balance) ≡ paperDelivery r
 delivery-back (D.Done s h) k = let f = told-fits k in rw (kind-back f, a-back f, b-back f)
 delivery-back (D.Refused r) k = let f = refusal-fits k in rw (numbered k, kind-back f, a-back f, b-back f)
 
@@ -157,9 +159,10 @@ check-paper {e} {b} g = ap paperCheckIn (g .answer) ∙ check-back (checkAnswer 
 pub open-paper : {j : List ℕ} {n : ℕ} {j′ : List ℕ} → OpenNumber j n j′ → paperOpeningIn n ≡ paperOpening (openAnswer j)
 open-paper {j} g = ap paperOpeningIn (g .answer) ∙ opening-back (openAnswer j) (opening-bounds j)
 
-pub deliver-paper : {j : List ℕ} {e : ℕ} {b : List ℕ} {n : ℕ} {j′ : List ℕ} → DeliverNumber j e b n j′
-    → paperDeliveryIn n ≡ paperDelivery (deliverAnswer j e b)
-deliver-paper {j} {e} {b} g = ap paperDeliveryIn (g .answer) ∙ delivery-back (deliverAnswer j e b) (delivery-bounds j (form e) b)
+-- of a delivery: its number, and the two numbers of what was expected, asked with the same journal and file
+pub deliver-paper : {j : List ℕ} {e : ℕ} {b : List ℕ} {n d : ℕ} {a : ℤ} {j′ : List ℕ} → DeliverNumber j e b n j′ → ExpectedDate j e b d → ExpectedBalance j e b a
+    → paperDeliveryIn n d a ≡ paperDelivery (deliverAnswer j e b)
+deliver-paper {j} {e} {b} g x y = rw (g .answer, x .answer, y .answer) (delivery-back (deliverAnswer j e b) (delivery-bounds j (form e) b))
 
 pub entry-paper : {j : List ℕ} {e n : ℕ} → EntryNumber j e n → paperPlaceIn n ≡ paperPlace (entryPlaceOf j e)
 entry-paper {j} {e} g = ap paperPlaceIn (g .answer) ∙ entry-back (entryPlaceOf j e) (entry-bounds j e)
@@ -210,9 +213,10 @@ beginning-numbered (B.Refused n r) k = k .some
 pub check-unpacked : {e : ℕ} {b : List ℕ} {n : ℕ} → CheckNumber e b n → checkedBy (paperCheckIn n) ≡ checkAnswer e b
 check-unpacked {e} {b} g = ap checkedBy (check-paper g) ∙ S.checked-by (checkAnswer e b) (check-numbered (checkAnswer e b) (check-bounds (form e) b))
 
-pub deliver-unpacked : {j : List ℕ} {e : ℕ} {b : List ℕ} {n : ℕ} {j′ : List ℕ} → DeliverNumber j e b n j′ → deliveryBy (paperDeliveryIn n) ≡ deliverAnswer j e b
-deliver-unpacked {j} {e} {b} g =
-    ap deliveryBy (deliver-paper g) ∙ J.delivery-by (deliverAnswer j e b) (delivery-numbered (deliverAnswer j e b) (delivery-bounds j (form e) b))
+pub deliver-unpacked : {j : List ℕ} {e : ℕ} {b : List ℕ} {n d : ℕ} {a : ℤ} {j′ : List ℕ} → DeliverNumber j e b n j′ → ExpectedDate j e b d → ExpectedBalance j e b a
+    → deliveryBy (paperDeliveryIn n d a) ≡ deliverAnswer j e b
+deliver-unpacked {j} {e} {b} g x y =
+    ap deliveryBy (deliver-paper g x y) ∙ J.delivery-by (deliverAnswer j e b) (delivery-numbered (deliverAnswer j e b) (delivery-bounds j (form e) b))
 
 pub check-apart : {e d : ℕ} {b a : List ℕ} {n : ℕ} → CheckNumber e b n → CheckNumber d a n → checkAnswer e b ≡ checkAnswer d a
 check-apart g h = sym (check-unpacked g) ∙ check-unpacked h
@@ -221,9 +225,10 @@ pub open-apart : {j i : List ℕ} {n : ℕ} {x y : List ℕ} → OpenNumber j n 
 open-apart {j} {i} g h =
     L.opening-apart {r = openAnswer j} {q = openAnswer i} (opening-numbered (openAnswer j) (opening-bounds j)) (opening-numbered (openAnswer i) (opening-bounds i)) (sym (open-paper g) ∙ open-paper h)
 
-pub deliver-apart : {j i : List ℕ} {e d : ℕ} {b a : List ℕ} {n : ℕ} {x y : List ℕ} → DeliverNumber j e b n x → DeliverNumber i d a n y
-    → deliverAnswer j e b ≡ deliverAnswer i d a
-deliver-apart g h = sym (deliver-unpacked g) ∙ deliver-unpacked h
+-- of a delivery the same three numbers mean the same answer
+pub deliver-apart : {j i : List ℕ} {e f : ℕ} {b c : List ℕ} {n d : ℕ} {a : ℤ} {x y : List ℕ} → DeliverNumber j e b n x → ExpectedDate j e b d → ExpectedBalance j e b a
+    → DeliverNumber i f c n y → ExpectedDate i f c d → ExpectedBalance i f c a → deliverAnswer j e b ≡ deliverAnswer i f c
+deliver-apart g p q h r s = sym (deliver-unpacked g p q) ∙ deliver-unpacked h r s
 
 pub entry-apart : {j i : List ℕ} {e d n : ℕ} → EntryNumber j e n → EntryNumber i d n → entryPlaceOf j e ≡ entryPlaceOf i d
 entry-apart {j} {i} {e} {d} g h =

@@ -1,8 +1,9 @@
--- The contract of each exported function: its one number, and the one final content of a lent journal or row.
+-- The contract of each exported function: its one number, and the one final content of a lent journal or row. Of a delivery's answer the number has all but what was expected, which two functions give apart.
 use mathlib.Core.Path.{_≡_}
 use mathlib.Core.List.{List, _++_}
 use Prim.Native.Nat.{ℕ, _-_}
 use lib.Dec.{ltb}
+use lib.IntN.{ℤ}
 use lib.ListN.{length, drop}
 use Rattle.zones.specs.Choice.{pick}
 use Rattle.framing.specs.declared.Form.{Form}
@@ -81,6 +82,14 @@ pub record OpenNumber (j : List ℕ) (r : ℕ) (j′ : List ℕ) : Type 0 where
 pub record DeliverNumber (j : List ℕ) (e : ℕ) (b : List ℕ) (r : ℕ) (j′ : List ℕ) : Type 0 where
   pub answer : r ≡ packedDelivery (paperDelivery (deliverAnswer j e b))
   pub content : j′ ≡ contentOf j (form e) b
+
+-- crownhazel_expected_date: what a delivery now would say was expected, in the paper's record
+pub record ExpectedDate (j : List ℕ) (e : ℕ) (b : List ℕ) (r : ℕ) : Type 0 where
+  pub answer : r ≡ paperDelivery (deliverAnswer j e b) .expected-date
+
+-- crownhazel_expected_balance
+pub record ExpectedBalance (j : List ℕ) (e : ℕ) (b : List ℕ) (r : ℤ) : Type 0 where
+  pub answer : r ≡ paperDelivery (deliverAnswer j e b) .expected-balance
 
 -- crownhazel_entry
 pub record EntryNumber (j : List ℕ) (e : ℕ) (r : ℕ) : Type 0 where

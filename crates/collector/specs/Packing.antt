@@ -4,6 +4,7 @@
 -- records and first body line, listed or not; the entries used, the body lines used and those in all; the records of a file of some length; the low 20 bits of the
 -- day that a file begins on, and those above them.
 use Prim.Native.Nat.{ℕ, _-_, _*_, _/_, _%_}
+use lib.IntN.{ℤ}
 use Rattle.packing.specs.Packing.{bit20, bit40, aIn, bIn, cIn, packed, refusalIn, recordIn, valueOrZero}
 use Rattle.records.specs.July.{recordSize}
 use Rattle.framing.specs.Answers.{PaperFrame}
@@ -52,8 +53,17 @@ paperCheckIn n =
 abbrev pub paperOpeningIn : ℕ → ℕ × ℕ
 paperOpeningIn n = (refusalIn n, recordIn n)
 
-abbrev pub paperDeliveryIn : ℕ → PaperDelivery
-paperDeliveryIn n = record { number = refusalIn n; at = recordIn n; stored = valueOrZero n (aIn n); held = valueOrZero n (bIn n) }
+-- with what was expected, which no 64 bits hold beside the rest: two numbers of their own
+abbrev pub paperDeliveryIn : ℕ → (date : ℕ) → (balance : ℤ) → PaperDelivery
+paperDeliveryIn n d a =
+    record {
+      number = refusalIn n;
+      at = recordIn n;
+      stored = valueOrZero n (aIn n);
+      held = valueOrZero n (bIn n);
+      expected-date = d;
+      expected-balance = a;
+    }
 
 abbrev pub paperPlaceIn : ℕ → PaperPlace
 paperPlaceIn n =

@@ -1,5 +1,5 @@
 // What the collector's host program calls. Each function answers one number that holds its whole answer, by `specs/Packing.antt`.
-ghost use Rattle.collector.specs.Answers.{CheckNumber, OpenNumber, DeliverNumber, EntryNumber, UsedNumber, ListedNumber, LengthNumber, EarliestNumber};
+ghost use Rattle.collector.specs.Answers.{CheckNumber, OpenNumber, DeliverNumber, ExpectedDate, ExpectedBalance, EntryNumber, UsedNumber, ListedNumber, LengthNumber, EarliestNumber};
 use contents::Beginning;
 use entries::CONTENTS;
 use entries::ROW;
@@ -48,6 +48,28 @@ pub extern "C" fn crownhazel_deliver(journal: &mut [u8], line_end: u64, file: &[
     match journal::deliver(journal, Form { line_end }, file) {
         Delivery::Done { stored, held } => packing::answered(stored, held, 0),
         Delivery::Refused(refusal) => packing::refused(refusal.number, refusal.record),
+    }
+}
+
+// What a delivery now would say was expected, where it is refused with 22: the new date of the account's last statement, as the delivery then sees it. Else 0.
+#[no_mangle]
+pub extern "C" fn crownhazel_expected_date(journal: &[u8], line_end: u64, file: &[u8]) -> u64
+    ensures { λ r. ⌜ ExpectedDate (now (journal .entry)) «line_end» (now (file .entry)) r ⌝ }
+{
+    match journal::foretold(journal, Form { line_end }, file) {
+        Delivery::Done { stored: _, held: _ } => 0,
+        Delivery::Refused(refusal) => refusal.expected_date as u64,
+    }
+}
+
+// Its new balance. Else 0.
+#[no_mangle]
+pub extern "C" fn crownhazel_expected_balance(journal: &[u8], line_end: u64, file: &[u8]) -> i64
+    ensures { λ r. ⌜ ExpectedBalance (now (journal .entry)) «line_end» (now (file .entry)) r ⌝ }
+{
+    match journal::foretold(journal, Form { line_end }, file) {
+        Delivery::Done { stored: _, held: _ } => 0,
+        Delivery::Refused(refusal) => refusal.expected_balance,
     }
 }
 

@@ -4,6 +4,7 @@ use mathlib.Core.Bool.{Bool, true, false, not, _||_}
 use mathlib.Core.List.{List}
 use Prim.Native.Nat.{ℕ, suc, _+_, _-_, _<_, _≤_}
 use native.Mathlib.Omega.{arith}
+use lib.IntN.{ℤ}
 use lib.ListN.{take, drop, getD}
 use mir.Syntax.{w64}
 use mir.Val.{toZ, ofZ}
@@ -17,7 +18,7 @@ use Rattle.statements.proofs.Judging.{look-small}
 use Rattle.bodies.specs.Bodies.{sameRecords}
 use Rattle.entries.specs.Entries.{mostEntries}
 use Rattle.journal_layout.specs.declared.Judgement.{Judgement}
-use Rattle.journal_layout.specs.declared.Judgement.the-variants.{Held}
+use Rattle.journal_layout.specs.declared.Judgement.the-variants.{Held, First, After}
 use Rattle.journal_layout.specs.Chains.{followsBy}
 use Rattle.journal_layout.specs.Test.{laterOf, judgedBy}
 use Rattle.journal.specs.declared.Refusal.{Refusal}
@@ -65,6 +66,18 @@ module _ (last : Judgement) (f : Form) (b places ends : List ℕ) (count : ℕ) 
       pub goes-on : {r : Judgement} → t ≡ false → r ≡ laterOf after f h s → Going r (p + 1)
       unfolding judgedIn
       goes-on y w = record { inside = omega arith; rest = rw w (rw y at step) }
+
+-- `not_next` at its returns
+module _ {j : Judgement} {at : ℕ} {r : Refusal} where
+  pub not-next-held : j ≡ Held → r ≡ refusal 22 at → r ≡ notNext j at
+  not-next-held p e = rw (p, e)
+
+  pub not-next-first : j ≡ First → r ≡ refusal 22 at → r ≡ notNext j at
+  not-next-first p e = rw (p, e)
+
+pub not-next-after : {j : Judgement} {at d : ℕ} {b c : ℤ} → j ≡ After d b → c ≡ b
+    → record { number = 22; «record» = at; «expected_date» = d; «expected_balance» = c } ≡ notNext j at
+not-next-after p e = rw (p, e)
 
 -- the verdict
 module _ (j : Judgement) (o : List ℕ) (entries left size at : ℕ) where

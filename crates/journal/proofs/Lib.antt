@@ -14,4 +14,5 @@ pub mod Holdings
 pub mod Promises
 pub mod Wrong
 pub mod Paper
+pub mod Expected
 pub mod One

@@ -5,12 +5,15 @@ use mathlib.Core.List.{List}
 use Prim.Native.Nat.{ℕ}
 use Rattle.framing.specs.declared.Form.{Form}
 use Rattle.journal.specs.declared.Delivery.{Delivery}
-use Rattle.journal.specs.Answers.{Delivers, NewestPlace, NewestPart, Holds, BodyOf, OfAccount}
+use Rattle.journal.specs.Answers.{Delivers, Foretells, NewestPlace, NewestPart, Holds, BodyOf, OfAccount}
 use Rattle.journal.specs.declared.Found.{Found}
 use Rattle.journal.specs.declared.Holding.{Holding}
 
 pub one-deliver : {j : List ℕ} {f : Form} {b : List ℕ} {r q : Delivery} {x y : List ℕ} → Delivers j f b r x → Delivers j f b q y → (r ≡ q) × (x ≡ y)
 one-deliver g h = (g .answer ∙ sym (h .answer), g .content ∙ sym (h .content))
+
+pub one-foretold : {j : List ℕ} {f : Form} {b : List ℕ} {r q : Delivery} → Foretells j f b r → Foretells j f b q → r ≡ q
+one-foretold g h = g .answer ∙ sym (h .answer)
 
 pub one-newest-place : {j : List ℕ} {f : Form} {b x : List ℕ} {r q : Found} → NewestPlace j f b x r → NewestPlace j f b x q → r ≡ q
 one-newest-place g h = g .answer ∙ sym (h .answer)

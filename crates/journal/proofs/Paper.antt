@@ -28,7 +28,7 @@ use Rattle.journal.specs.Delivery.{Outcome, delivered, refused, outcomeO
 use Rattle.journal.specs.Arrivals.{span, arrivals, spansOf, lastIndex}
 use Rattle.journal.specs.Newest.{keySize, keyFrom, newestAmong, newestOf}
 use Rattle.journal.specs.Holdings.{holdingOf}
-use Rattle.journal.specs.Answers.{PaperNewest, PaperHolding, paperDelivery, paperNewest, paperHolding, answerOf, paperOutcome, deliveryBy, Delivers, NewestPlace, Holds}
+use Rattle.journal.specs.Answers.{PaperNewest, PaperHolding, paperDelivery, paperNewest, paperHolding, answerOf, paperOutcome, deliveryBy, Delivers, Foretells, NewestPlace, Holds}
 
 -- ---- a delivery
 
@@ -36,9 +36,12 @@ paper-answer : (o : Outcome) → paperDelivery (answerOf o) ≡ paperOutcome o
 paper-answer (delivered ss s h) = refl
 paper-answer (refused r) = refl
 
+pub foretells : {j : List ℕ} {f : Form} {b : List ℕ} {r : Delivery} → r ≡ answerOf (outcomeOf j f b) → Foretells j f b r
+foretells {j} {f} {b} p = record { paper = ap paperDelivery p ∙ paper-answer (outcomeOf j f b); answer = p }
+
 -- at the code's return
 pub delivers : {j : List ℕ} {f : Form} {b : List ℕ} {r : Delivery} {j′ : List ℕ} → r ≡ answerOf (outcomeOf j f b) → j′ ≡ contentOf j f b → Delivers j f b r j′
-delivers {j} {f} {b} p c = record { paper = ap paperDelivery p ∙ paper-answer (outcomeOf j f b); answer = p; content = c }
+delivers {j} {f} {b} p c = record { paper = foretells {j = j} {f = f} {b = b} p .paper; answer = p; content = c }
 
 -- ---- the newest statement: delivery's refusals, then 25
 

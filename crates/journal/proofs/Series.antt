@@ -137,7 +137,7 @@ journal-never-falls {j} {ss} g k = chain-never-falls (ofAccount k ss) (g .kept .
 -- ---- sent again
 
 -- held by these
-abbrev HeldBy : List Statement → List Statement → Type 0
+abbrev pub HeldBy : List Statement → List Statement → Type 0
 HeldBy L ss = All (λ s. heldAmong s L ≡ true) ss
 
 held-more : (L M ss : List Statement) → HeldBy L ss → HeldBy (L ++ M) ss
@@ -165,7 +165,7 @@ held-self s (h ∷ H) M = by (identical h s) (held-self s H M)
     by false e = e
 
 -- what arrived is held
-arrived-held : (H ss : List Statement) → HeldBy (H ++ arrivals H ss) ss
+pub arrived-held : (H ss : List Statement) → HeldBy (H ++ arrivals H ss) ss
 unfolding arrivals
 arrived-held H [] = tt
 arrived-held H (s ∷ ss) = by (heldAmong s H) refl (arrived-held H ss) (arrived-held (H ++ (s ∷ [])) ss)

@@ -1,26 +1,28 @@
--- WHAT AN ACCOUNT HAS SKIPPED IS NEVER STORED, by whatever meets demand 3: a statement that begins before a new date held of its account.
+-- WHAT AN ACCOUNT HAS SKIPPED IS NEVER STORED, by whatever meets demand 3: a statement that begins before a new date held of its account. So a file that has one is never accepted.
 use mathlib.Core.Path.{_≡_, refl, ap, _∙_}
 use mathlib.Core.Bool.{Bool, true, false, _||_}
-use mathlib.Core.List.{List, [], _∷_, _++_}
+use mathlib.Core.List.{List, [], _∷_, _++_, append-assoc}
 use Prim.Native.Nat.{ℕ, _<_, _≤_}
 use native.Mathlib.Omega.{arith}
 use lib.ListN.{length}
 use Rattle.zones.specs.Choice.{pick}
+use Rattle.framing.specs.declared.Form.{Form}
 use Rattle.framing.specs.Files.{All}
 use Rattle.grammar.specs.Record.{sameKey}
 use Rattle.grammar.specs.Statements.{Statement}
-use Rattle.grammar.specs.Files.{Writable}
-use Rattle.grammar.proofs.Tests.{sameKey-self}
-use Rattle.records.specs.July.{july}
+use Rattle.grammar.specs.Files.{Writable, statementsOf}
+use Rattle.grammar.proofs.Tests.{clash, sameKey-self}
+use Rattle.records.specs.July.{july, codingOf}
 use Rattle.bodies.specs.Bodies.{identical}
 use Rattle.bodies.proofs.Identical.{identical-equal}
 use Rattle.journal_layout.specs.Chains.{heldAmong, ofAccount}
 use Rattle.journal_layout.specs.Layout.{isLength, Journal}
 use Rattle.journal_layout.proofs.Chain.{account-append, InTurn, chain-in-turn}
+use Rattle.journal.specs.declared.Delivery.the-variants.{Done}
 use Rattle.journal.specs.Arrivals.{arrivals}
-use Rattle.journal.specs.Series.{Event, Deliver, after, heldAlong, heldAfter, accepted, Demand3}
+use Rattle.journal.specs.Series.{Event, deliver, Deliver, after, heldAlong, heldAfter, accepted, Demand3}
 use Rattle.journal.proofs.Values.{held-append}
-use Rattle.journal.proofs.Series.{held-along, all-account}
+use Rattle.journal.proofs.Series.{held-along, all-account, arrived-held}
 
 -- a series in two: the second part goes on from what the first one held
 along-append : (D : Deliver) (j : List ℕ) (H : List Statement) (es fs : List Event) → heldAlong D j H (es ++ fs) ≡ heldAlong D (after D j es) (heldAlong D j H es) fs
@@ -76,3 +78,25 @@ module _ {O : List ℕ → List ℕ} {D : Deliver} (d : Demand3 O D) (j : List �
       back : (A B : List Statement) → All (Writable july) (A ++ B) → All (Writable july) B
       back [] B w = w
       back (a ∷ A) B w = back A B (w .1)
+
+  -- SO A FILE WITH IT IS NEVER ACCEPTED: delivered without a refusal it would leave s held
+  pub never-accepted : (s h : Statement) (before behind : List Statement) → Writable july s → heldAmong s H ≡ false
+      → ofAccount (s .key) H ≡ before ++ (h ∷ behind) → s .old-date < h .new-date
+      → (later : List Event) (f : Form) (b : List ℕ) (x y : ℕ) (front back : List Statement) → statementsOf (codingOf f) f b ≡ front ++ (s ∷ back)
+      → D (after D (O j) (es ++ later)) f b .answer ≡ Done x y → ⊥
+  unfolding heldAlong
+  never-accepted s h before behind v n o u later f b x y front back q e =
+      let ss = statementsOf (codingOf f) f b in
+      let L = heldAfter D (O j) (es ++ later) in
+      let a : heldAfter D (O j) ((es ++ later) ++ (deliver f b ∷ [])) ≡ L ++ arrivals L ss = along-append D (O j) [] (es ++ later) (deliver f b ∷ []) ∙ rw e in
+      let t : heldAmong s (L ++ arrivals L ss) ≡ true = among (λ z. heldAmong z (L ++ arrivals L ss) ≡ true) q (arrived-held L ss) in
+      let c : heldAmong s (heldAfter D (O j) ((es ++ later) ++ (deliver f b ∷ []))) ≡ false =
+      rw (append-assoc es later (deliver f b ∷ [])) (never-stored s h before behind v n o u (later ++ (deliver f b ∷ []))) in
+      clash t (rw a at c)
+    where
+      there : (P : Statement → Type 0) (front : List Statement) → All P (front ++ (s ∷ back)) → P s
+      there P [] w = w .0
+      there P (z ∷ front) w = there P front (w .1)
+
+      among : (P : Statement → Type 0) {ts : List Statement} → ts ≡ front ++ (s ∷ back) → All P ts → P s
+      among P p w = there P front (rw p at w)

@@ -4,9 +4,10 @@ use mathlib.Core.Bool.{Bool}
 use mathlib.Core.List.{List}
 use Prim.Native.Nat.{ℕ}
 use lib.Dec.{eqb}
+use lib.IntN.{ℤ, pos}
 use Rattle.zones.specs.Choice.{pick}
 use Rattle.framing.specs.declared.Form.{Form}
-use Rattle.journal.specs.Delivery.{refusal, Outcome, delivered, refused, outcomeOf, contentOf}
+use Rattle.journal.specs.Delivery.{Outcome, delivered, refused, outcomeOf, contentOf}
 use Rattle.journal.specs.Newest.{newestOf, newestPart}
 use Rattle.journal.specs.Holdings.{holdingOf, bodyIn, ofAccountIn}
 use Rattle.journal.specs.declared.Holding.{Holding}
@@ -14,19 +15,29 @@ use Rattle.journal.specs.declared.Holding.the-variants as H
 use Rattle.journal.specs.declared.Found.{Found}
 use Rattle.journal.specs.declared.Found.the-variants as N
 use Rattle.journal.specs.declared.Found.the-variants.{InJournal, InFile}
+use Rattle.journal.specs.declared.Refusal.{Refusal}
 use Rattle.journal.specs.declared.Delivery.{Delivery}
 use Rattle.journal.specs.declared.Delivery.the-variants.{Done, Refused}
 
--- number, record, stored and held: zero where the paper says zero
+-- Number, record, stored and held, what was expected: zero where the paper says zero. Of a refusal every number but its own and the record's is 0, with this one exception: 22 says the new
+-- date and the new balance of the account's last statement.
 pub record PaperDelivery : Type 0 where
   pub number : ℕ
   pub at : ℕ
   pub stored : ℕ
   pub held : ℕ
+  pub expected-date : ℕ
+  pub expected-balance : ℤ
+
+abbrev paperDone : (stored held : ℕ) → PaperDelivery
+paperDone s h = record { number = 0; at = 0; stored = s; held = h; expected-date = 0; expected-balance = pos 0 }
+
+abbrev paperRefused : Refusal → PaperDelivery
+paperRefused r = record { number = r .number; at = r .«record»; stored = 0; held = 0; expected-date = r .«expected_date»; expected-balance = r .«expected_balance» }
 
 abbrev pub paperDelivery : Delivery → PaperDelivery
-paperDelivery (Done s h) = record { number = 0; at = 0; stored = s; held = h }
-paperDelivery (Refused r) = record { number = r .number; at = r .«record»; stored = 0; held = 0 }
+paperDelivery (Done s h) = paperDone s h
+paperDelivery (Refused r) = paperRefused r
 
 -- number, record, and of a statement found: 1 where the journal holds it and 2 where the file does, first byte, length, line-end number, 0 for the journal, whose bodies have no line ends
 pub record PaperNewest : Type 0 where
@@ -59,18 +70,25 @@ answerOf (refused r) = Refused r
 
 -- and as the paper gives it
 abbrev pub paperOutcome : Outcome → PaperDelivery
-paperOutcome (delivered ss s h) = record { number = 0; at = 0; stored = s; held = h }
-paperOutcome (refused r) = record { number = r .number; at = r .«record»; stored = 0; held = 0 }
+paperOutcome (delivered ss s h) = paperDone s h
+paperOutcome (refused r) = paperRefused r
 
 -- the code's answer that has a record: a refusal where there is a number
 abbrev pub deliveryBy : PaperDelivery → Delivery
-deliveryBy p = pick (eqb (p .number) 0) (Done (p .stored) (p .held)) (Refused (refusal (p .number) (p .at)))
+deliveryBy p =
+    pick (eqb (p .number) 0) (Done (p .stored) (p .held))
+    (Refused (record { number = p .number; «record» = p .at; «expected_date» = p .expected-date; «expected_balance» = p .expected-balance }))
 
 -- deliver: the paper's record is that of the outcome, and so is the case
 pub record Delivers (j : List ℕ) (f : Form) (b : List ℕ) (r : Delivery) (j′ : List ℕ) : Type 0 where
   pub paper : paperDelivery r ≡ paperOutcome (outcomeOf j f b)
   pub answer : r ≡ answerOf (outcomeOf j f b)
   pub content : j′ ≡ contentOf j f b
+
+-- foretold: the same answer, of a delivery now
+pub record Foretells (j : List ℕ) (f : Form) (b : List ℕ) (r : Delivery) : Type 0 where
+  pub paper : paperDelivery r ≡ paperOutcome (outcomeOf j f b)
+  pub answer : r ≡ answerOf (outcomeOf j f b)
 
 -- newest_place
 pub record NewestPlace (j : List ℕ) (f : Form) (b x : List ℕ) (r : Found) : Type 0 where

@@ -4,7 +4,7 @@ use mathlib.Core.List.{List, [], _∷_, _++_}
 use Prim.Native.Nat.{ℕ, _+_, _-_, _/_}
 use lib.Dec.{leb, ltb}
 use lib.ListN.{length}
-use lib.IntN.{ℤ}
+use lib.IntN.{ℤ, pos}
 use Rattle.zones.specs.Choice.{pick}
 use Rattle.framing.specs.declared.Form.{Form}
 use Rattle.grammar.specs.Answer as G
@@ -22,18 +22,29 @@ use Rattle.journal.specs.declared.Refusal.{Refusal}
 use Rattle.journal.specs.declared.Verdict.{Verdict}
 use Rattle.journal.specs.declared.Verdict.the-variants.{Hold, Store, Refuse}
 
--- a refusal by its number and its record
+-- a refusal by its number and its record; nothing was expected
 abbrev pub refusal : (number at : ℕ) → Refusal
-refusal n r = record { number = n; «record» = r }
+refusal n r = record { number = n; «record» = r; «expected_date» = 0; «expected_balance» = pos 0 }
 
 abbrev pub isHeld : Judgement → Bool
 isHeld Held = true
 isHeld First = false
 isHeld (After d b) = false
 
--- 22: a statement that does not follow, by what the others say of it
+-- WHAT WAS EXPECTED: the new date and the new balance of the last statement of the account, as the others say them; zero where there is none
+abbrev pub lastDate : Judgement → ℕ
+lastDate Held = 0
+lastDate First = 0
+lastDate (After d b) = d
+
+abbrev pub lastBalance : Judgement → ℤ
+lastBalance Held = pos 0
+lastBalance First = pos 0
+lastBalance (After d b) = b
+
+-- 22: a statement that does not follow, with what was expected of it. No other refusal says that.
 abbrev pub notNext : Judgement → (at : ℕ) → Refusal
-notNext j at = refusal 22 at
+notNext j at = record { number = 22; «record» = at; «expected_date» = lastDate j; «expected_balance» = lastBalance j }
 
 -- What becomes of a statement. A held one is held, also if the table is full. Otherwise it must follow, else 22. Then no entry left gives 23, too few lines left 24. A refusal reports the 01's record.
 abbrev pub verdictBy : Judgement → (date : ℕ) → (balance : ℤ) → (entries left size at : ℕ) → Verdict

@@ -3,6 +3,7 @@ pub mod Arrivals
 pub mod Newest
 pub mod Holdings
 pub mod Answers
+pub mod Expected
 pub mod Plans
 pub mod Series
 pub mod Promises

@@ -12,12 +12,12 @@ ghost use Rattle.grammar.specs.Parts.{sizeOf};
 ghost use Rattle.records.specs.July.{codingOf};
 ghost use Rattle.records.specs.Looks.{lookOf};
 ghost use Rattle.entries.specs.Entries.{mostEntries, lineAt};
-ghost use Rattle.journal.specs.Delivery.{refusal, isHeld, verdictBy};
+ghost use Rattle.journal.specs.Delivery.{refusal, notNext, isHeld, verdictBy};
 ghost use Rattle.journal_layout.specs.Test.{heldOf};
 ghost use Rattle.journal.specs.declared.Found.the-variants.{Refused};
 ghost use Rattle.journal.specs.Newest.{keySize, keyFrom, newestAmong, newestOf, isAccount, lastHeldFrom, lastPart};
 ghost use Rattle.journal.specs.Plans.{partsFrom, Inside, judgedIn, judgedAll, Reading, written, writtenAll, Deliverable, donePlan, refusedPlan, Storable, Planned, Judgeable, Turned, Searchable, Finds};
-ghost use Rattle.journal.specs.Answers.{Delivers, NewestPlace, NewestPart, Holds, BodyOf, OfAccount};
+ghost use Rattle.journal.specs.Answers.{Delivers, Foretells, NewestPlace, NewestPart, Holds, BodyOf, OfAccount};
 use entries::CONTENTS;
 use entries::ENTRY;
 use entries::MOST_ENTRIES;
@@ -31,10 +31,12 @@ use statements::Checked;
 // The bytes of an account key: bank, branch, currency, decimals, account.
 pub const KEY: usize = 25;
 
-// Why a delivery is refused, and at which record.
+// Why a delivery is refused, and at which record. With 22 what was expected: the new date and the new balance of the account's last statement; else both are 0.
 pub struct Refusal {
     pub number: u64,
     pub record: u64,
+    pub expected_date: u32,
+    pub expected_balance: i64,
 }
 
 // How many statements were stored, and how many were held; or why it is refused.
@@ -145,11 +147,34 @@ fn judged_all(
     judged_planned(last, form, file, places, ends, count, s)
 }
 
-// A refusal by its number and its record.
+// A refusal by its number and its record; nothing was expected.
 fn refusal_at(number: u64, record: u64) -> Refusal
     ensures { λ r. ⌜ r ≡ refusal number «record» ⌝ }
 {
-    Refusal { number, record }
+    Refusal {
+        number,
+        record,
+        expected_date: 0,
+        expected_balance: 0,
+    }
+}
+
+// 22, with what was expected: what the others say of the account's last statement.
+fn not_next(judgement: Judgement, record: u64) -> Refusal
+    ensures { λ r. ⌜ r ≡ notNext judgement «record» ⌝ }
+{
+    match judgement {
+        Judgement::Held => refusal_at(22, record),
+        Judgement::First => refusal_at(22, record),
+        Judgement::After { date, balance } => {
+            Refusal {
+                number: 22,
+                record,
+                expected_date: date,
+                expected_balance: balance,
+            }
+        }
+    }
 }
 
 // What becomes of a statement, by what others say of it and the room that is left. Its 01 is this record.
@@ -168,7 +193,7 @@ fn verdict_by(
     }
     let old = records::look_at(opening);
     if !journal_layout::follows(judgement, old.day, old.amount) {
-        return Verdict::Refuse(refusal_at(22, record));
+        return Verdict::Refuse(not_next(judgement, record));
     }
     if MOST_ENTRIES <= entries {
         return Verdict::Refuse(refusal_at(23, record));
@@ -363,6 +388,14 @@ pub fn deliver(journal: &mut [u8], form: Form, file: &[u8]) -> Delivery
         plan.entry,
         plan.line,
     );
+    plan.answer
+}
+
+// What a delivery of the file now would answer. The journal stays as it is.
+pub fn foretold(journal: &[u8], form: Form, file: &[u8]) -> Delivery
+    ensures { λ r. ⌜ Foretells (now (journal .entry)) form (now (file .entry)) r ⌝ }
+{
+    let plan = planned(journal, form, file);
     plan.answer
 }
 

@@ -28,6 +28,15 @@ fn number(n: u64) {
     io::print_decimal(STDOUT_FILENO, n);
 }
 
+// A whole number, a minus before a debit.
+fn balance(v: i64) {
+    word(b" ");
+    if v < 0 {
+        word(b"-");
+    }
+    io::print_decimal(STDOUT_FILENO, amounts::absolute(v));
+}
+
 fn end_line() {
     word(b"\n");
 }
@@ -123,7 +132,12 @@ fn deliver(journal: &mut [u8], form: Form, file: &[u8]) {
             word(b" held");
             number(held);
         }
-        Delivery::Refused(refusal) => refused(refusal.number, refusal.record),
+        Delivery::Refused(refusal) => {
+            refused(refusal.number, refusal.record);
+            word(b" expected");
+            number(refusal.expected_date as u64);
+            balance(refusal.expected_balance);
+        }
     }
     number(hash(journal));
     end_line();

@@ -19,6 +19,41 @@ pub struct Delivered {
     pub held: u64,
 }
 
+/// What a statement that does not follow had to begin with: the new date and the new balance of the
+/// last of its account. Both are 0 where that is not what was wrong; no date is 0.
+#[derive(Clone, Copy, Debug, Default, PartialEq, Eq)]
+pub struct Expected {
+    pub date: u32,
+    pub balance: i128,
+}
+
+impl Expected {
+    /// What is expected behind this one.
+    fn behind(last: &Held) -> Expected {
+        Expected {
+            date: last.new_date,
+            balance: last.new_balance,
+        }
+    }
+}
+
+/// Why a file was not delivered, and what was expected of it.
+#[derive(Clone, Copy, Debug, PartialEq, Eq)]
+pub struct NotDelivered {
+    pub refusal: Refusal,
+    pub expected: Expected,
+}
+
+impl From<Refusal> for NotDelivered {
+    /// A refusal with which nothing was expected.
+    fn from(refusal: Refusal) -> NotDelivered {
+        NotDelivered {
+            refusal,
+            expected: Expected::default(),
+        }
+    }
+}
+
 /// Which of the two holds the newest statement.
 #[derive(Clone, Copy, Debug, PartialEq, Eq)]
 pub enum Source {
@@ -47,7 +82,7 @@ struct Judged {
 }
 
 /// Stores the statements of a file that are not held yet. A refusal changes nothing.
-pub fn deliver(journal: &mut [u8], line_end: u64, file: &[u8]) -> Result<Delivered, Refusal> {
+pub fn deliver(journal: &mut [u8], line_end: u64, file: &[u8]) -> Result<Delivered, NotDelivered> {
     let judged = judge(journal, line_end, file)?;
     journal.copy_from_slice(&lay_out(&judged.after, journal.len()));
     Ok(Delivered {
@@ -57,9 +92,9 @@ pub fn deliver(journal: &mut [u8], line_end: u64, file: &[u8]) -> Result<Deliver
 }
 
 /// The newest statement of an account: the last one that delivery now would store, else the last
-/// held. The journal stays as it is.
+/// held. The journal stays as it is. What was expected is not said here.
 pub fn newest(journal: &[u8], line_end: u64, file: &[u8], key: &[u8]) -> Result<Newest, Refusal> {
-    let judged = judge(journal, line_end, file)?;
+    let judged = judge(journal, line_end, file).map_err(|not_delivered| not_delivered.refusal)?;
     in_file(&judged, line_end, key)
         .or_else(|| in_journal(&judged, key))
         .ok_or(Refusal {
@@ -92,7 +127,7 @@ fn in_journal(judged: &Judged, key: &[u8]) -> Option<Newest> {
 }
 
 /// 21 first, then the file's refusals, then its statements in turn.
-fn judge(journal: &[u8], line_end: u64, file: &[u8]) -> Result<Judged, Refusal> {
+fn judge(journal: &[u8], line_end: u64, file: &[u8]) -> Result<Judged, NotDelivered> {
     let before = held(journal)?;
     let lines = body_lines(journal.len()).unwrap_or(0);
     let mut judged = Judged {
@@ -111,7 +146,10 @@ fn judge(journal: &[u8], line_end: u64, file: &[u8]) -> Result<Judged, Refusal> 
             continue;
         }
         let record = (statement.place.first / line_length) as u64 + 1;
-        may_be_stored(&judged.after, &new, lines).map_err(|number| Refusal { number, record })?;
+        may_be_stored(&judged.after, &new, lines).map_err(|(number, expected)| NotDelivered {
+            refusal: Refusal { number, record },
+            expected,
+        })?;
         judged.stored.push((statement.place, new.key.clone()));
         judged.after.push(new);
     }
@@ -144,17 +182,19 @@ fn is_held(list: &[Held], new: &Held) -> bool {
     list.iter().any(|held| held.records == new.records)
 }
 
-/// 22, then 23, then 24, for a statement that is not held.
-fn may_be_stored(list: &[Held], new: &Held, lines: usize) -> Result<(), u32> {
-    if last_of(list, &new.key).map_or(false, |last| !new.follows(last)) {
-        return Err(DOES_NOT_FOLLOW);
+/// 22 with what was expected, then 23, then 24, for a statement that is not held.
+fn may_be_stored(list: &[Held], new: &Held, lines: usize) -> Result<(), (u32, Expected)> {
+    match last_of(list, &new.key) {
+        Some(last) if !new.follows(last) => return Err((DOES_NOT_FOLLOW, Expected::behind(last))),
+        _ => {}
     }
+    let nothing = Expected::default();
     if list.len() == ENTRIES {
-        return Err(TABLE_FULL);
+        return Err((TABLE_FULL, nothing));
     }
     let used: usize = list.iter().map(Held::lines).sum();
     if used + new.lines() > lines {
-        return Err(TOO_FEW_LINES);
+        return Err((TOO_FEW_LINES, nothing));
     }
     Ok(())
 }

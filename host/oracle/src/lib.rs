@@ -14,6 +14,7 @@ pub mod check;
 pub mod contents;
 pub mod damage;
 pub mod delivery;
+pub mod expected;
 pub mod failure;
 pub mod hostile;
 pub mod hostile_entries;

@@ -17,7 +17,9 @@ use oracle::read::{complement, head, movement, place};
 use oracle::replay::{replay_checks, replay_series};
 use oracle::samples::write_samples;
 use oracle::series;
-use oracle::series_cases::{big_series, kept_series, month_end_series, nil_series};
+use oracle::series_cases::{
+    big_series, expected_series, kept_series, month_end_series, nil_series,
+};
 use oracle::show::{complement_line, head_line, line, place_line, readings, row_line};
 use oracle::table_cases::replay_tables;
 use oracle::write::{answer_text, big, corpus, kept, nil_files};
@@ -46,6 +48,8 @@ const USAGE: &str = "usage:
       the same with the vectors of amounts of nothing
   oracle series-month-ends DIR
       the same with the vectors of month ends
+  oracle series-expected DIR
+      the same with the vectors of what was expected
   oracle replay-checks SEED COUNT OUT
       fixed checks and COUNT generated ones with their answers, in one binary file
   oracle replay-series SEED COUNT OUT
@@ -137,6 +141,7 @@ fn run_series(arguments: &[&str]) -> io::Result<()> {
         ["series-big", directory] => print_lines(&big_series(Path::new(directory))?),
         ["series-nil", directory] => print_lines(&nil_series(Path::new(directory))?),
         ["series-month-ends", directory] => print_lines(&month_end_series(Path::new(directory))?),
+        ["series-expected", directory] => print_lines(&expected_series(Path::new(directory))?),
         _ => Err(failure(USAGE)),
     }
 }

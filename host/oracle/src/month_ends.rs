@@ -2,9 +2,9 @@
 //! statement held closes on a Friday; what follows opens on that day or on a later one. They are
 //! fixed: no seed.
 
-use crate::record::{put, write_amount, RECORD};
+use crate::record::{put, RECORD};
 use crate::series_cases::{Script, SeriesCase, Write, TABLE};
-use crate::worked_account::{deliver, newest, statement, with, Records, KEY};
+use crate::worked_account::{deliver, moved, newest, with, Records, KEY};
 
 /// A Friday that closes a November, and the Sunday with which its December opens.
 const FRIDAY: &str = "281125";
@@ -33,19 +33,6 @@ const SERIES: [(&str, Write); 10] = [
 /// All series.
 pub fn series() -> Vec<SeriesCase> {
     SERIES.into_iter().map(SeriesCase::fixed).collect()
-}
-
-/// An amount as it stands in a record.
-fn amount(value: i64) -> String {
-    String::from_utf8(write_amount(value)).expect("an amount has printable bytes")
-}
-
-/// A statement with these movements.
-fn moved(dates: [&str; 2], old: i64, movements: &[i64]) -> Records {
-    let new = old + movements.iter().sum::<i64>();
-    let amounts: Vec<String> = movements.iter().map(|&value| amount(value)).collect();
-    let amounts: Vec<&str> = amounts.iter().map(String::as_str).collect();
-    statement(dates, &amount(old), &amounts, &amount(new))
 }
 
 /// A statement without a movement, with 100 on the account.

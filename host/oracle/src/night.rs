@@ -4,7 +4,7 @@
 use std::collections::{BTreeMap, BTreeSet};
 
 use crate::check::RECORD;
-use crate::delivery::{deliver, to_be_held, Delivered};
+use crate::delivery::{deliver, to_be_held, Delivered, NotDelivered};
 use crate::journal::{held, last_of, Held};
 use crate::read::Refusal;
 
@@ -22,7 +22,7 @@ pub struct Incoming {
 #[derive(Clone, Copy, Debug, PartialEq, Eq)]
 pub enum Fate {
     Done(Delivered),
-    /// Refused by the file's own fault.
+    /// Refused by the file's own fault, or with 22 where nothing of it can ever be stored.
     Refused(Refusal),
     /// It waits on, for what it has to follow or for room.
     Left(Refusal),
@@ -87,6 +87,17 @@ impl<'a> Waiting<'a> {
         let statements = self.statements.iter();
         let dates = statements.map(|statement| (statement.old_date, statement.new_date));
         dates.min().unwrap_or((0, 0))
+    }
+
+    /// Whether nothing of it can ever be stored: each of its statements is held, or begins before the
+    /// last one that is held of its account ends.
+    fn comes_too_late(&self, list: &[Held]) -> bool {
+        let is_passed = |statement: &Held| {
+            let last = last_of(list, &statement.key);
+            last.map_or(false, |last| statement.old_date < last.new_date)
+        };
+        let mut statements = self.statements.iter();
+        statements.all(|statement| list.contains(statement) || is_passed(statement))
     }
 }
 
@@ -157,7 +168,7 @@ fn round(
         let fate = if is_held_back(waiting, place, journal) {
             Fate::HeldBack
         } else {
-            fate(deliver(journal, file.line_end, file.bytes))
+            delivered(journal, file)
         };
         fates.insert(file.name.to_string(), fate);
         match fate {
@@ -173,7 +184,7 @@ fn round(
 
 /// Whether a statement of the file at that place has to wait for one in another file.
 fn is_held_back(waiting: &[Waiting], place: usize, journal: &[u8]) -> bool {
-    let list = held(journal).expect("the journal of a night is sound");
+    let list = held_by(journal);
     let mut latest = BTreeMap::new();
     for statement in &list {
         note(&mut latest, &statement.key, statement.new_date);
@@ -201,23 +212,30 @@ fn note<'a>(latest: &mut BTreeMap<&'a [u8], u32>, key: &'a [u8], date: u32) {
     *kept = date.max(*kept);
 }
 
-fn fate(answer: Result<Delivered, Refusal>) -> Fate {
-    match answer {
+/// What becomes of a file that is delivered. With 22 it waits on as long as something of it may still
+/// be stored.
+fn delivered(journal: &mut [u8], file: &Waiting) -> Fate {
+    match deliver(journal, file.line_end, file.bytes) {
         Ok(delivered) => Fate::Done(delivered),
-        Err(refusal) => match refusal.number {
+        Err(NotDelivered { refusal, .. }) => match refusal.number {
             1..=15 => Fate::Refused(refusal),
+            22 if file.comes_too_late(&held_by(journal)) => Fate::Refused(refusal),
             22..=24 => Fate::Left(refusal),
             number => panic!("the journal of a night is refused with {number}"),
         },
     }
 }
 
+/// What the journal of a night holds.
+fn held_by(journal: &[u8]) -> Vec<Held> {
+    held(journal).expect("the journal of a night is sound")
+}
+
 /// The accounts that the second journal holds and the first does not.
 fn begun(before: &[u8], after: &[u8]) -> Vec<Begun> {
-    let list = |journal| held(journal).expect("the journals of a night are sound");
-    let mut known: BTreeSet<Vec<u8>> = list(before).into_iter().map(|held| held.key).collect();
+    let mut known: BTreeSet<Vec<u8>> = held_by(before).into_iter().map(|held| held.key).collect();
     let mut begun = Vec::new();
-    for held in list(after) {
+    for held in held_by(after) {
         if known.insert(held.key.clone()) {
             begun.push(Begun {
                 key: held.key,
@@ -231,8 +249,7 @@ fn begun(before: &[u8], after: &[u8]) -> Vec<Begun> {
 /// What the second journal holds more than the first, and what begins on a later day than the last
 /// of its account ended.
 fn skipped(before: &[u8], after: &[u8]) -> Vec<Skipped> {
-    let list = |journal| held(journal).expect("the journals of a night are sound");
-    let (first, all) = (list(before).len(), list(after));
+    let (first, all) = (held_by(before).len(), held_by(after));
     let mut skipped = Vec::new();
     for (index, new) in all.iter().enumerate().skip(first) {
         if let Some(last) = last_of(&all[..index], &new.key) {

@@ -9,6 +9,7 @@ mod beside;
 mod ends;
 mod months;
 mod names;
+mod never;
 mod plan;
 mod room;
 mod spoilt;
@@ -65,6 +66,9 @@ fn add_others(rng: &mut Rng, plan: &mut Plan, index: usize) {
         for _ in 0..1 + rng.index(4) {
             spoilt::add_damaged(rng, plan, &list);
         }
+    }
+    for _ in 0..rng.index(3) {
+        never::add(rng, plan);
     }
     for _ in 0..rng.index(3) {
         beside::add(rng, plan);

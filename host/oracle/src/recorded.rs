@@ -7,7 +7,7 @@ use crate::answers::Numbers;
 use crate::case_file::put_bytes;
 use crate::check::RECORD;
 use crate::contents::{listed, ROW};
-use crate::delivery::deliver;
+use crate::delivery::{deliver, Expected};
 use crate::failure::failure;
 use crate::journal::{entry, open, used, Used, ENTRIES, ENTRY, TABLE};
 use crate::read::Refusal;
@@ -99,7 +99,11 @@ impl Series {
         if answer.map_or(false, |done| done.stored > 0) {
             self.asked = false;
         }
-        self.answer_on_journal(answer.map(|done| [done.stored, done.held, 0]));
+        let expected = answer.map_or_else(|refused| refused.expected, |_| Expected::default());
+        let answer = answer.map_err(|refused| refused.refusal);
+        self.answer(answer.map(|done| [done.stored, done.held, 0]));
+        self.expected(expected);
+        self.hash();
         self.ask();
     }
 
@@ -195,11 +199,23 @@ impl Series {
         answer.put(&mut self.bytes);
     }
 
-    /// The answer, then a hash over the journal as the call leaves it.
+    /// The answer, then the hash.
     fn answer_on_journal(&mut self, answer: Result<[u64; 3], Refusal>) {
         self.answer(answer);
+        self.hash();
+    }
+
+    /// A hash over the journal as the call leaves it.
+    fn hash(&mut self) {
         let hash = fnv(&self.journal);
         self.number(hash);
+    }
+
+    /// Date and balance. A debit stands in two's complement.
+    fn expected(&mut self, expected: Expected) {
+        self.number(u64::from(expected.date));
+        let balance = i64::try_from(expected.balance).expect("a balance has 14 digits");
+        self.bytes.extend(balance.to_le_bytes());
     }
 
     /// The whole series. Its journal, which may be large, is let go.

@@ -1,6 +1,6 @@
-//! Sample files with readable content: an estate's account over three months, a loan beside it, an
-//! account at nil with either zero, a month that ends on a Sunday, and one file for each of the
-//! commonest refusals. They are fixed: no seed.
+//! Sample files with readable content: an estate's account over three months, one of them corrected,
+//! a loan beside it, an account at nil with either zero, a month that ends on a Sunday, and one file
+//! for each of the commonest refusals. They are fixed: no seed.
 
 use std::fs;
 use std::io;
@@ -123,6 +123,15 @@ fn january() -> Records {
 
 /// The same form of records as January.
 fn february() -> Records {
+    february_with_electricity(-64_217)
+}
+
+/// The bank had booked the digits of one amount in the wrong order.
+fn corrected_february() -> Records {
+    february_with_electricity(-46_217)
+}
+
+fn february_with_electricity(amount: i64) -> Records {
     statement(&Month {
         account: "00012345678",
         old_date: "310125",
@@ -131,7 +140,7 @@ fn february() -> Records {
         movements: vec![
             receipt("050225", 917_525, "LIBNOISETTES LIVRAISON JANVIER"),
             movement("08", "100225", "PRLV EAU", -18_640),
-            movement("08", "140225", "PRLV ELECTRICITE", -64_217),
+            movement("08", "140225", "PRLV ELECTRICITE", amount),
             movement("06", "280225", "VIREMENT SALAIRES", -415_000),
         ],
     })
@@ -252,6 +261,11 @@ fn accepted() -> Vec<Sample> {
         sample("estate-2025-01.cfonb", NONE, &[january()]),
         sample("estate-2025-02.cfonb", LF, &[february()]),
         sample("estate-2025-03.cfonb", CRLF, &[march()]),
+        sample(
+            "estate-2025-02-corrected.cfonb",
+            LF,
+            &[corrected_february()],
+        ),
         sample("two-accounts.cfonb", CRLF, &interleaved),
         sample("estate-at-nil.cfonb", LF, &[at_nil(DEBIT_ZERO)]),
         sample("estate-at-nil-again.cfonb", LF, &[at_nil(CREDIT_ZERO)]),

@@ -3,7 +3,7 @@
 //! An operation is a header of 31 bytes (a letter, number a in 19 digits, number b in 8 digits,
 //! blanks between, LF at the end) and for `D` and `N` b bytes of payload.
 
-use crate::delivery::{deliver, newest, Source};
+use crate::delivery::{deliver, newest, NotDelivered, Source};
 use crate::journal::{entry, is_sound, open};
 use crate::read::Refusal;
 use crate::show::refusal_line;
@@ -173,9 +173,11 @@ pub fn perform(journal: &mut Vec<u8>, operation: Operation) -> Option<String> {
             None
         }
         Operation::Deliver { line_end, file } => {
-            let answer = deliver(journal, line_end, file);
-            let answer = answer.map(|done| format!("stored {} held {}", done.stored, done.held));
-            Some(format!("D {} {}", words(answer), hash(journal)))
+            let answer = match deliver(journal, line_end, file) {
+                Ok(done) => format!("stored {} held {}", done.stored, done.held),
+                Err(not_delivered) => refused_delivery(not_delivered),
+            };
+            Some(format!("D {answer} {}", hash(journal)))
         }
         Operation::Newest {
             line_end,
@@ -210,6 +212,12 @@ fn poke(journal: &mut [u8], offset: u64, byte: u8) {
 /// The words of an answer, those of its refusal if it is one.
 fn words(answer: Result<String, Refusal>) -> String {
     answer.unwrap_or_else(refusal_line)
+}
+
+/// The words of a delivery that is refused: its refusal, then what was expected.
+fn refused_delivery(NotDelivered { refusal, expected }: NotDelivered) -> String {
+    let refusal = refusal_line(refusal);
+    format!("{refusal} expected {} {}", expected.date, expected.balance)
 }
 
 /// A number over all the journal's bytes.

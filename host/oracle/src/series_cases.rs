@@ -27,7 +27,7 @@ use std::path::Path;
 use crate::failure::failure;
 use crate::rng::Rng;
 use crate::series::run;
-use crate::{month_ends, nil};
+use crate::{expected, month_ends, nil};
 use script::Make;
 
 /// Kept series are not longer than this.
@@ -35,7 +35,7 @@ pub const KEPT_SERIES: usize = 131_072;
 /// Nor are the journals in them longer than this.
 pub const KEPT_JOURNAL: usize = 65_536;
 /// The kinds, which come in turn.
-pub const KINDS: [(&str, Make); 37] = [
+pub const KINDS: [(&str, Make); 38] = [
     ("retries-with-other-line-ends", deliveries::retries),
     ("statement-in-two-files", deliveries::two_files),
     ("partial-overlaps", deliveries::overlaps),
@@ -73,6 +73,7 @@ pub const KINDS: [(&str, Make); 37] = [
     ("damaged-by-debit-zeros", damaged::debit_zeros),
     ("month-ends", gaps::month_ends),
     ("passed-over", gaps::passed_over),
+    ("behind-new-ones", refusals::behind_new_ones),
 ];
 
 /// The series of that seed and index.
@@ -112,6 +113,11 @@ pub fn nil_series(directory: &Path) -> io::Result<Vec<String>> {
 /// Writes the vectors of month ends to a directory. Gives the lines of their runs.
 pub fn month_end_series(directory: &Path) -> io::Result<Vec<String>> {
     write_series(directory, &month_ends::series())
+}
+
+/// Writes the vectors of what was expected to a directory. Gives the lines of their runs.
+pub fn expected_series(directory: &Path) -> io::Result<Vec<String>> {
+    write_series(directory, &expected::series())
 }
 
 /// Names and kinds go to standard error, so that the lines are those of the runs alone.

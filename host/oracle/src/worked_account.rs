@@ -1,6 +1,6 @@
 //! Statements of the worked account with blank free zones, as the vectors have them.
 
-use crate::record::{plain, put};
+use crate::record::{plain, put, write_amount};
 use crate::series_cases::Script;
 use crate::valid::Draft;
 
@@ -19,6 +19,19 @@ pub fn statement(dates: [&str; 2], old: &str, amounts: &[&str], new: &str) -> Re
     records.extend(amounts.iter().map(|amount| movement(dates[0], amount)));
     records.push(balance("07", dates[1], new));
     records
+}
+
+/// A statement with these movements. The new balance is what they come to.
+pub fn moved(dates: [&str; 2], old: i64, movements: &[i64]) -> Records {
+    let new = old + movements.iter().sum::<i64>();
+    let amounts: Vec<String> = movements.iter().map(|&value| amount(value)).collect();
+    let amounts: Vec<&str> = amounts.iter().map(String::as_str).collect();
+    statement(dates, &amount(old), &amounts, &amount(new))
+}
+
+/// An amount as it stands in a record.
+fn amount(value: i64) -> String {
+    String::from_utf8(write_amount(value)).expect("an amount has printable bytes")
 }
 
 /// An 01 or 07.

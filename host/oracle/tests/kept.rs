@@ -1,5 +1,6 @@
 //! The kept cases of the proved programs: what they are held to is what is answered here. The last
-//! files are the vectors of amounts of nothing, the last series those and the vectors of month ends.
+//! files are the vectors of amounts of nothing, the last series those, the vectors of month ends and
+//! those of what was expected.
 
 use std::path::PathBuf;
 
@@ -9,7 +10,7 @@ use oracle::series::{operations, run, Operation};
 use oracle::series_cases::{KEPT_JOURNAL, KEPT_SERIES};
 use oracle::show::{complement_line, head_line, line, place_line, readings, row_line};
 use oracle::write::answer_text;
-use oracle::{month_ends, nil};
+use oracle::{expected, month_ends, nil};
 
 /// A number of no statement, movement or complement.
 const NONE: u64 = 20_001;
@@ -115,7 +116,7 @@ fn last_files_are_the_vectors() {
 fn last_series_are_the_vectors() {
     let names = text("journal_cases", "args");
     let names: Vec<&str> = names.lines().collect();
-    let series = [nil::series(), month_ends::series()].concat();
+    let series = [nil::series(), month_ends::series(), expected::series()].concat();
     let last = &names[names.len() - series.len()..];
     for (name, case) in last.iter().zip(&series) {
         assert!(data("journal_cases", name) == case.bytes, "{}", case.name);

@@ -21,11 +21,15 @@ const NIGHTS: usize = 400;
 const TABLE: usize = 7_680;
 
 /// What a night may try, and how often it does at least.
-const KINDS: [(&str, usize); 43] = [
+const KINDS: [(&str, usize); 50] = [
     ("accounts-together", 60),
     ("almost-ignored-name", 60),
     ("changed-month", 10),
     ("corrected", 20),
+    ("corrected-beside-coming", 20),
+    ("corrected-beside-held", 20),
+    ("corrected-beside-new", 20),
+    ("corrected-beside-single-day", 40),
     ("cut-alone", 20),
     ("cut-and-whole", 60),
     ("cut-between-records", 30),
@@ -40,6 +44,7 @@ const KINDS: [(&str, usize); 43] = [
     ("entries-full", 20),
     ("first-month-behind", 30),
     ("first-month-stuck", 10),
+    ("first-month-stuck-for-ever", 10),
     ("first-night", 20),
     ("gap-inside", 15),
     ("held-though-full", 40),
@@ -51,6 +56,8 @@ const KINDS: [(&str, usize); 43] = [
     ("month-missing", 20),
     ("month-passed-over", 20),
     ("new-account", 60),
+    ("older", 20),
+    ("other-balance", 20),
     ("retry-of-held", 20),
     ("retry-other-line-end", 40),
     ("retry-other-zero", 20),
@@ -99,6 +106,11 @@ fn dates(body: &[u8]) -> [u32; 2] {
         let century = if year < 80 { 2_000 } else { 1_900 };
         (10_000 * (century + year) + 100 * month + day) as u32
     })
+}
+
+/// Whether a journal holds a statement with these records.
+fn holds(journal: &[u8], body: &[u8]) -> bool {
+    held(journal).iter().any(|(_, other)| *other == body)
 }
 
 /// What a chain holds in the end, given room: the records of each statement as they are stored.
@@ -182,10 +194,47 @@ fn is_too_early(held: &[(Vec<u8>, u32, u32)], key: &[u8], date: u32) -> bool {
         .any(|(other, _, new)| other == key && date < *new)
 }
 
-/// No file that is left has a statement that the night passed over: one that could have been stored
-/// before by its date, and no longer can. The exception is one that begins within the period of
-/// another that was stored: of the two only one can be. This is so of every account, whatever is
-/// known of it and however little room there is.
+/// Whether the file waits on after the night.
+fn waits(fate: &Fate) -> bool {
+    matches!(fate, Fate::Left(_) | Fate::HeldBack)
+}
+
+/// Whether the delivery refuses it with 22 and it waits no more.
+fn comes_too_late(fate: &Fate) -> bool {
+    matches!(fate, Fate::Refused(refusal) if refusal.number == 22)
+}
+
+/// A statement of a file: its account, its old date, its first record, and its records as they are
+/// stored.
+struct Sent {
+    key: Vec<u8>,
+    date: u32,
+    record: u64,
+    body: Vec<u8>,
+}
+
+/// The statements of an accepted file.
+fn sent(file: &Incoming) -> Vec<Sent> {
+    let line_end = found_line_end(&file.bytes);
+    let line = 120 + line_end as usize;
+    let statements = statements(line_end, &file.bytes).unwrap().into_iter();
+    let sent = statements.map(|one| {
+        let part = &file.bytes[one.place.first..one.place.first + one.place.length];
+        let records: Vec<&[u8]> = part.chunks(line).map(|line| &line[..120]).collect();
+        Sent {
+            key: one.head.key.bytes(),
+            date: one.head.old_date,
+            record: (one.place.first / line) as u64 + 1,
+            body: signed(0, &records.concat(), b'{'),
+        }
+    });
+    sent.collect()
+}
+
+/// No file that is left, or that comes too late, has a statement that the night passed over: one that
+/// is not held, could have been stored before by its date, and no longer can. The exception is one
+/// that begins within the period of another that was stored: of the two only one can be. This is so
+/// of every account, whatever is known of it and however little room there is.
 #[test]
 fn nothing_that_waits_is_passed_over() {
     let (mut still_wait, mut too_early, mut within) = (0, 0, 0);
@@ -193,16 +242,20 @@ fn nothing_that_waits_is_passed_over() {
         let (before, after) = (periods(&case.journal), periods(&night.journal));
         let stored = &after[before.len()..];
         for file in &case.incoming {
-            let waits = |fate: &Fate| matches!(fate, Fate::Left(_) | Fate::HeldBack);
-            if !night.fates.get(&file.name).map_or(false, waits) {
+            let not_stored = |fate: &Fate| waits(fate) || comes_too_late(fate);
+            if !night.fates.get(&file.name).map_or(false, not_stored) {
                 continue;
             }
-            for statement in statements(found_line_end(&file.bytes), &file.bytes).unwrap() {
-                let (key, date) = (statement.head.key.bytes(), statement.head.old_date);
+            for Sent {
+                key, date, body, ..
+            } in sent(file)
+            {
                 let is_within = |(other, old, new): &(Vec<u8>, u32, u32)| {
                     *other == key && (*old..*new).contains(&date)
                 };
-                if is_too_early(&before, &key, date) {
+                if holds(&night.journal, &body) {
+                    continue;
+                } else if is_too_early(&before, &key, date) {
                     too_early += 1;
                 } else if !is_too_early(&after, &key, date) {
                     still_wait += 1;
@@ -217,7 +270,105 @@ fn nothing_that_waits_is_passed_over() {
         still_wait > 150 && too_early > 20,
         "{still_wait} {too_early}"
     );
-    assert!(within < 60, "{within}");
+    assert!(within < 20, "{within}");
+}
+
+/// The latest new date that is held of an account.
+fn last_date(held: &[(Vec<u8>, u32, u32)], key: &[u8]) -> Option<u32> {
+    let of_account = held.iter().filter(|(other, ..)| other == key);
+    of_account.map(|&(_, _, new)| new).max()
+}
+
+/// Files are refused with 22 exactly if nothing of them can be stored any more: each statement is
+/// held, or begins before the last new date of its account. What of another file can still be stored
+/// waits on, whatever its refusal.
+#[test]
+fn what_comes_too_late_is_refused() {
+    let (mut refused, mut left) = (0, 0);
+    for (case, night) in all_nights() {
+        let periods = periods(&night.journal);
+        let never_stored = |one: Sent| {
+            holds(&night.journal, &one.body) || is_too_early(&periods, &one.key, one.date)
+        };
+        for file in &case.incoming {
+            match night.fates.get(&file.name) {
+                Some(fate) if comes_too_late(fate) => {
+                    assert!(sent(file).into_iter().all(never_stored));
+                    refused += 1;
+                }
+                Some(fate) if waits(fate) => {
+                    assert!(!sent(file).into_iter().all(never_stored));
+                    left += 1;
+                }
+                _ => {}
+            }
+        }
+    }
+    assert!(refused > 100 && left > 250, "{refused} {left}");
+}
+
+/// Files that come too late have one statement or several; some do so from the first, some since the
+/// night.
+#[test]
+fn files_come_too_late_in_every_way() {
+    let (mut of_one, mut of_several, mut since_the_night) = (0, 0, 0);
+    for (case, night) in all_nights() {
+        let before = periods(&case.journal);
+        for file in &case.incoming {
+            if night.fates.get(&file.name).map_or(false, comes_too_late) {
+                let sent = sent(file);
+                of_one += usize::from(sent.len() == 1);
+                of_several += usize::from(sent.len() > 1);
+                since_the_night += usize::from(sent.iter().any(|one| {
+                    let held = holds(&case.journal, &one.body);
+                    !held && !is_too_early(&before, &one.key, one.date)
+                }));
+            }
+        }
+    }
+    assert!(of_one > 50 && of_several > 40, "{of_one} {of_several}");
+    assert!(since_the_night > 10, "{since_the_night}");
+}
+
+/// Whether a statement begins before one of its account that stands in front of it.
+fn is_backwards(sent: &[Sent]) -> bool {
+    let is_after = |one: &Sent, other: &Sent| one.key == other.key && one.date > other.date;
+    (0..sent.len()).any(|at| sent[..at].iter().any(|one| is_after(one, &sent[at])))
+}
+
+/// What is refused with 22 and left has its months in the wrong order, where nothing is held of the
+/// account and where something is; or it begins before the last new date of its account, on it or
+/// after it.
+#[test]
+fn files_are_left_in_every_way() {
+    let mut wrong_order = [0; 2];
+    let (mut before, mut on, mut after) = (0, 0, 0);
+    for (case, night) in all_nights() {
+        let periods = periods(&night.journal);
+        for file in &case.incoming {
+            let record = match night.fates.get(&file.name) {
+                Some(Fate::Left(refusal)) if refusal.number == 22 => refusal.record,
+                _ => continue,
+            };
+            let sent = sent(file);
+            let refused = sent.iter().find(|one| one.record == record).unwrap();
+            match last_date(&periods, &refused.key) {
+                None => wrong_order[0] += usize::from(is_backwards(&sent)),
+                Some(last) if refused.date < last => before += 1,
+                Some(_) if is_backwards(&sent) => wrong_order[1] += 1,
+                Some(last) if refused.date == last => on += 1,
+                Some(_) => after += 1,
+            }
+        }
+    }
+    assert!(
+        wrong_order.iter().all(|&count| count > 10),
+        "{wrong_order:?}"
+    );
+    assert!(
+        before > 40 && on > 10 && after > 30,
+        "{before} {on} {after}"
+    );
 }
 
 /// The earliest old balance date of each account in the files that are taken and accepted.
@@ -292,7 +443,6 @@ fn days_are_skipped() {
 fn what_is_left_stays() {
     for (case, before) in all_nights() {
         let mut left = case.incoming;
-        let waits = |fate: &Fate| matches!(fate, Fate::Left(_) | Fate::HeldBack);
         left.retain(|file| before.fates.get(&file.name).map_or(false, waits));
         let after = night(&before.journal, &left);
         assert!(after.journal == before.journal);
@@ -392,20 +542,19 @@ fn every_kind_occurs() {
     }
 }
 
-/// Every refusal of a file occurs but 1, and each that leaves it; files that are held back, files
-/// that are held, rounds after the first, accounts that begin.
+/// Every refusal of a file occurs but 1, and each that leaves it, 22 with either end; files that are
+/// held back, files that are held, rounds after the first, accounts that begin.
 #[test]
 fn every_end_occurs() {
-    let mut counts: BTreeMap<u32, usize> = BTreeMap::new();
+    let [mut refused, mut left] = [(); 2].map(|()| BTreeMap::<u32, usize>::new());
     let (mut held, mut mixed, mut held_back, mut later_rounds, mut begun) = (0, 0, 0, [0; 2], 0);
     for (_, night) in all_nights() {
         for fate in night.fates.values() {
             match fate {
                 Fate::Done(done) if done.stored > 0 => mixed += usize::from(done.held > 0),
                 Fate::Done(done) => held += usize::from(done.held > 0),
-                Fate::Refused(refusal) | Fate::Left(refusal) => {
-                    *counts.entry(refusal.number).or_default() += 1;
-                }
+                Fate::Refused(refusal) => *refused.entry(refusal.number).or_default() += 1,
+                Fate::Left(refusal) => *left.entry(refusal.number).or_default() += 1,
                 Fate::HeldBack => held_back += 1,
             }
         }
@@ -414,9 +563,11 @@ fn every_end_occurs() {
         }
         begun += night.begun.len();
     }
-    let numbers: Vec<u32> = counts.keys().copied().collect();
-    assert_eq!(numbers, (2..=15).chain(22..=24).collect::<Vec<_>>());
-    assert!(counts.values().all(|&count| count >= 10), "{counts:?}");
+    let numbers = |counts: &BTreeMap<u32, usize>| counts.keys().copied().collect::<Vec<_>>();
+    assert_eq!(numbers(&refused), (2..=15).chain([22]).collect::<Vec<_>>());
+    assert_eq!(numbers(&left), [22, 23, 24]);
+    let often = |counts: &BTreeMap<u32, usize>| counts.values().all(|&count| count >= 10);
+    assert!(often(&refused) && often(&left), "{refused:?} {left:?}");
     assert!(held > 150 && mixed > 30, "{held} {mixed}");
     assert!(held_back > 60, "{held_back}");
     assert!(

@@ -9,7 +9,7 @@ use oracle::case_file::Cases;
 use oracle::check::{check, records_in, Answer};
 use oracle::contents::listed;
 use oracle::damage::Case;
-use oracle::delivery::deliver;
+use oracle::delivery::{deliver, Expected};
 use oracle::journal::{entry, open, used};
 use oracle::read::Refusal;
 use oracle::recorded::{fnv, Series};
@@ -240,6 +240,7 @@ fn a_series_by_hand_is_read_back() {
         &fnv(&vec![b' '; length]).to_le_bytes(),
         b"D\x02\0\0\0\0\0\0\0\x01\0\0\0x",
         b"\x01\x02\0\0\0\0\0\0\0\0\0\0\0\0\0\0\0\0\0\0\0",
+        b"\0\0\0\0\0\0\0\0\0\0\0\0\0\0\0\0",
         &fnv(&vec![b' '; length]).to_le_bytes(),
     ];
     assert!(std::fs::read(&path).unwrap() == expected.concat());
@@ -279,6 +280,60 @@ fn a_row_by_hand_is_read_back() {
     assert!(std::fs::read(&path).unwrap() == expected.concat());
 }
 
+/// A statement of two records from one date to another, with one balance.
+fn quiet(dates: [&str; 2], balance: &str) -> Vec<u8> {
+    let record = |code, date| {
+        let key = "12345    00010EUR2 0001234567A  ";
+        format!("{code}{key}{date}{:50}{balance}{:16}", "", "")
+    };
+    let records = [record("01", dates[0]), record("07", dates[1])];
+    records.concat().into_bytes()
+}
+
+/// What is expected stands between answer and hash, a debit in two's complement; in a delivery that
+/// is accepted both are 0. 2025-02-28 is 0x0134FE74 as a number, -120833 is 2^64 - 0x1D801.
+#[test]
+fn what_was_expected_is_read_back() {
+    let path = path("by-hand-expected.series");
+    let first = quiet(["310125", "280225"], "0000000012083L");
+    let second = quiet(["280225", "310325"], "0000000012083C");
+    let length = TABLE + 480;
+    let mut series = Series::new("expected");
+    series.perform(Operation::Journal { length });
+    series.perform(Operation::Open);
+    for file in [&first, &second] {
+        series.perform(Operation::Deliver { line_end: 0, file });
+    }
+    let mut cases = Cases::create(&path, SERIES, 12, 1).unwrap();
+    add_series(&mut cases, &series.end()).unwrap();
+    cases.finish().unwrap();
+    let mut journal = vec![b' '; length];
+    journal[..47].copy_from_slice(b"1234500010EUR20001234567A3101252802250000000002");
+    journal[TABLE..TABLE + 240].copy_from_slice(&first);
+    let hash = fnv(&journal).to_le_bytes();
+    let accepted = [
+        &b"D\0\0\0\0\0\0\0\0\xF0\0\0\0"[..],
+        &first,
+        b"\0\0\0\0\0\0\0\0\0\x01\0\0\0\0\0\0\0\0\0\0\0",
+        b"\0\0\0\0\0\0\0\0\0\0\0\0\0\0\0\0",
+        &hash,
+    ];
+    let refused = [
+        &b"D\0\0\0\0\0\0\0\0\xF0\0\0\0"[..],
+        &second,
+        b"\x01\x16\0\0\0\x01\0\0\0\0\0\0\0\0\0\0\0\0\0\0\0",
+        b"\x74\xFE\x34\x01\0\0\0\0\xFF\x27\xFE\xFF\xFF\xFF\xFF\xFF",
+        &hash,
+    ];
+    let file = std::fs::read(&path).unwrap();
+    assert!(contains(&file, &accepted.concat()));
+    assert!(file.ends_with(&refused.concat()));
+}
+
+fn contains(bytes: &[u8], part: &[u8]) -> bool {
+    bytes.windows(part.len()).any(|window| window == part)
+}
+
 /// An operation as it was put in: letter, number, bytes.
 type Put = (u8, u64, Vec<u8>);
 
@@ -298,6 +353,8 @@ fn rerun(reader: &mut Reader, refusals: &mut BTreeSet<u64>) -> Vec<Put> {
         };
         if letter == b'L' {
             refusals.insert(list_again(reader, &journal, a));
+        } else if letter == b'D' {
+            refusals.insert(deliver_again(reader, &mut journal, a, bytes));
         } else if let Some(answer) = rerun_one(&mut journal, letter, a, bytes) {
             assert_eq!(reader.answer(), answer);
             assert_eq!(reader.number(8), fnv(&journal));
@@ -325,7 +382,24 @@ fn list_again(reader: &mut Reader, journal: &[u8], entry: u64) -> u64 {
     answer[1]
 }
 
-/// The answer of an operation on the whole journal that has one.
+/// Delivers a file: the answer, what was expected and the journal are the same. A date is expected
+/// with 22, and with no other answer. Gives the refusal or 0.
+fn deliver_again(reader: &mut Reader, journal: &mut [u8], line_end: u64, file: &[u8]) -> u64 {
+    let (answer, expected) = match deliver(journal, line_end, file) {
+        Ok(done) => ([0, 0, 0, done.stored, done.held, 0], Expected::default()),
+        Err(not_delivered) => (refused(not_delivered.refusal), not_delivered.expected),
+    };
+    assert_eq!(reader.answer(), answer);
+    let (date, balance) = (reader.number(8), reader.number(8) as i64);
+    assert_eq!(date, u64::from(expected.date));
+    assert_eq!(i128::from(balance), expected.balance);
+    assert_eq!(date != 0, answer[1] == 22);
+    assert!(date != 0 || balance == 0);
+    assert_eq!(reader.number(8), fnv(journal));
+    answer[1]
+}
+
+/// The answer of another operation on the whole journal that has one.
 fn rerun_one(journal: &mut Vec<u8>, letter: u8, a: u64, bytes: &[u8]) -> Option<Numbers> {
     let answer = match letter {
         b'J' => {
@@ -342,7 +416,6 @@ fn rerun_one(journal: &mut Vec<u8>, letter: u8, a: u64, bytes: &[u8]) -> Option<
             let line = (place.first - TABLE) / 120;
             [0, 0, 0, place.length as u64 / 120, line as u64, 0]
         }),
-        b'D' => deliver(journal, a, bytes).map(|done| [0, 0, 0, done.stored, done.held, 0]),
         b'U' => used(journal).map(|used| {
             let numbers = [used.statements, used.lines_taken, used.lines];
             let [a, b, c] = numbers.map(|number| number as u64);

@@ -4,7 +4,7 @@ use std::collections::BTreeSet;
 use std::path::PathBuf;
 
 use oracle::check::check;
-use oracle::delivery::{deliver, Delivered};
+use oracle::delivery::{deliver, Delivered, Expected, NotDelivered};
 use oracle::journal::open;
 use oracle::read::Refusal;
 use oracle::samples::samples;
@@ -39,6 +39,7 @@ fn answers_of_the_check() {
         ("estate-2025-01.cfonb", "accepted 1 4 1"),
         ("estate-2025-02.cfonb", "accepted 1 4 1"),
         ("estate-2025-03.cfonb", "accepted 1 4 1"),
+        ("estate-2025-02-corrected.cfonb", "accepted 1 4 1"),
         ("two-accounts.cfonb", "accepted 4 10 2"),
         ("estate-at-nil.cfonb", "accepted 2 2 1"),
         ("estate-at-nil-again.cfonb", "accepted 2 2 1"),
@@ -67,8 +68,12 @@ fn answers_of_the_check() {
     }
 }
 
+/// What a delivery answers.
+type Answer = Result<Delivered, NotDelivered>;
+
 /// The months one by one are held after all three at once, and the statements at nil after those
-/// with the other zero; November does not follow March.
+/// with the other zero. Neither the corrected February nor November follows March, which ends with
+/// 1,982,378 + 1,250,000 - 19,210 - 230,000 - 415,000.
 #[test]
 fn answers_of_delivery() {
     let mut journal = empty_journal();
@@ -78,12 +83,16 @@ fn answers_of_delivery() {
             answers.push(deliver(&mut journal, sample.line_end, &sample.bytes));
         }
     }
-    let delivered = |stored, held| Ok(Delivered { stored, held });
     let once = delivered(0, 1);
+    let behind_march = [does_not_follow(1, 20250331, 2_568_168)];
     let months = [delivered(3, 0), once, once, once];
     let at_nil = [delivered(2, 0), delivered(0, 2)];
-    let november = [does_not_follow(1)];
-    assert_eq!(answers, [&months[..], &at_nil, &november].concat());
+    let expected = [&months[..], &behind_march, &at_nil, &behind_march];
+    assert_eq!(answers, expected.concat());
+}
+
+fn delivered(stored: u64, held: u64) -> Answer {
+    Ok(Delivered { stored, held })
 }
 
 fn empty_journal() -> Vec<u8> {
@@ -92,28 +101,75 @@ fn empty_journal() -> Vec<u8> {
     journal
 }
 
-fn does_not_follow(record: u64) -> Result<Delivered, Refusal> {
-    Err(Refusal { number: 22, record })
+/// 22 at that record, with this date and balance expected.
+fn does_not_follow(record: u64, date: u32, balance: i128) -> Answer {
+    Err(NotDelivered {
+        refusal: Refusal { number: 22, record },
+        expected: Expected { date, balance },
+    })
 }
 
-/// What a sample is answered with by an empty journal.
-fn answer_of_empty_journal(name: &str) -> Result<Delivered, Refusal> {
+/// What the last of these samples is answered with, delivered after the others.
+fn last_answer(names: &[&str]) -> Answer {
     let samples = samples();
-    let sample = samples.iter().find(|sample| sample.name == name).unwrap();
-    deliver(&mut empty_journal(), sample.line_end, &sample.bytes)
+    let mut journal = empty_journal();
+    let answers = names.iter().map(|name| {
+        let sample = samples.iter().find(|sample| sample.name == *name).unwrap();
+        deliver(&mut journal, sample.line_end, &sample.bytes)
+    });
+    answers.last().unwrap()
 }
 
-/// January has seven records.
+/// January has seven records and ends with 1,250,000 + 842,350 - 18,640 - 96,000 - 415,000.
 #[test]
 fn answers_of_an_empty_journal() {
-    assert_eq!(
-        answer_of_empty_journal("estate-sunday-month-end.cfonb"),
-        Ok(Delivered { stored: 2, held: 0 })
-    );
-    assert_eq!(
-        answer_of_empty_journal("refused-22-month-missing.cfonb"),
-        does_not_follow(8)
-    );
+    let cases = [
+        ("estate-2025-02-corrected.cfonb", delivered(1, 0)),
+        ("estate-sunday-month-end.cfonb", delivered(2, 0)),
+        (
+            "refused-22-month-missing.cfonb",
+            does_not_follow(8, 20250131, 1_562_710),
+        ),
+    ];
+    for (name, answer) in cases {
+        assert_eq!(last_answer(&[name]), answer, "{name}");
+    }
+}
+
+/// Behind the three months, and with February missing.
+#[test]
+fn what_was_expected_of_a_sample() {
+    let months = "estate-three-months.cfonb";
+    for name in [
+        "estate-2025-02-corrected.cfonb",
+        "estate-sunday-month-end.cfonb",
+    ] {
+        let answer = does_not_follow(1, 20250331, 2_568_168);
+        assert_eq!(last_answer(&[months, name]), answer, "{name}");
+    }
+    let january_and_march = ["estate-2025-01.cfonb", "estate-2025-03.cfonb"];
+    let answer = does_not_follow(1, 20250131, 1_562_710);
+    assert_eq!(last_answer(&january_and_march), answer);
+}
+
+/// The corrected February differs from the other one in an amount and in the new balance.
+#[test]
+fn the_corrected_month() {
+    let [february, corrected] = ["estate-2025-02.cfonb", "estate-2025-02-corrected.cfonb"]
+        .map(|name| std::fs::read(kept().join(name)).unwrap());
+    assert_eq!(february.len(), corrected.len());
+    let pairs = february.chunks(121).zip(corrected.chunks(121));
+    let different: Vec<usize> = (1..)
+        .zip(pairs)
+        .filter(|(_, (one, other))| one != other)
+        .map(|(record, _)| record)
+        .collect();
+    assert_eq!(different, [5, 7]);
+    let amount = |bytes: &[u8], record: usize| bytes[121 * (record - 1) + 90..][..14].to_vec();
+    assert_eq!(amount(&february, 5), b"0000000006421P");
+    assert_eq!(amount(&corrected, 5), b"0000000004621P");
+    assert_eq!(amount(&february, 7), b"0000000198237H");
+    assert_eq!(amount(&corrected, 7), b"0000000200037H");
 }
 
 /// November closes on a Friday, December opens with the Sunday, and has that balance.

@@ -63,6 +63,22 @@ fn day(date: &[u8]) -> u32 {
     ((100 * century + two(4)) * 100 + two(2)) * 100 + two(0)
 }
 
+/// The value of an amount.
+fn value(amount: &[u8]) -> i64 {
+    let place = |signs: &[u8]| signs.iter().position(|&sign| sign == amount[13]);
+    let digits: i64 = std::str::from_utf8(&amount[..13]).unwrap().parse().unwrap();
+    match (place(b"{ABCDEFGHI"), place(b"}JKLMNOPQR")) {
+        (Some(last), _) => 10 * digits + last as i64,
+        (_, last) => -(10 * digits + last.unwrap() as i64),
+    }
+}
+
+/// The date and the balance with which a statement ends.
+fn end_of(records: &[u8]) -> (u32, i64) {
+    let closes = &records[records.len() - 120..];
+    (day(&closes[34..40]), value(&closes[90..104]))
+}
+
 /// How a statement opens behind another of its account: whether its 01 has the balance of the other's
 /// 07, and whether its day is earlier or later. As they are stored, equal balances have equal bytes.
 fn behind(next: &[u8], last: &[u8]) -> (bool, Ordering) {
@@ -99,6 +115,9 @@ struct Watch {
     /// with 22: for an earlier day alone, for another balance alone, for both.
     days_between: usize,
     do_not_follow: [usize; 3],
+    /// How many of these stood in a file behind new statements of their account, and how many behind
+    /// new ones of other accounts.
+    behind_new_ones: [usize; 2],
 }
 
 impl Watch {
@@ -124,7 +143,13 @@ impl Watch {
         let line = perform(&mut self.journal, operation)?;
         let words: Vec<&str> = line.split(' ').collect();
         if words[1] == "refused" {
-            self.refusals.insert(words[2].parse().unwrap());
+            let number = words[2].parse().unwrap();
+            self.refusals.insert(number);
+            // X2: nothing is expected but with 22. X4: and only of a delivery.
+            let nothing = ["expected", "0", "0"];
+            let rest = &words[4..];
+            assert_eq!(rest.starts_with(&nothing), words[0] == "D" && number != 22);
+            assert_eq!(rest.contains(&"expected"), words[0] == "D");
         }
         self.answers += 1;
         Some(line)
@@ -198,13 +223,10 @@ impl Watch {
     /// For 22, 23, 24: without the statement at that record and all behind it the file is delivered,
     /// and then that statement alone has the same refusal, at its first record. It is none of those
     /// that are held then. With 22 it has another balance than the last of its account, or an earlier
-    /// day; with 23 and 24 neither.
+    /// day; with 23 and 24 neither. What is expected with 22 is the end of that last one.
     fn refused_statement(&mut self, journal: &[u8], line: &str, line_end: u64, file: &[u8]) {
-        let words: Vec<u64> = line
-            .split(' ')
-            .filter_map(|word| word.parse().ok())
-            .collect();
-        let (number, record) = (words[0] as u32, words[1]);
+        let words: Vec<&str> = line.split(' ').collect();
+        let (number, record): (u32, u64) = (words[2].parse().unwrap(), words[3].parse().unwrap());
         if !(22..=24).contains(&number) {
             return;
         }
@@ -213,8 +235,8 @@ impl Watch {
         let (before, from_there) = sent.split_at(index.unwrap());
         let mut copy = journal.to_vec();
         assert!(deliver(&mut copy, 0, &before.concat()).is_ok());
-        let alone = Refusal { number, record: 1 };
-        assert_eq!(deliver(&mut copy, 0, &from_there[0]), Err(alone));
+        let alone = deliver(&mut copy, 0, &from_there[0]).map_err(|refused| refused.refusal);
+        assert_eq!(alone, Err(Refusal { number, record: 1 }));
         let list = in_journal(&copy);
         assert!(!list.contains(&from_there[0]));
         let last = last_of_account(&list, &from_there[0]);
@@ -227,6 +249,12 @@ impl Watch {
         };
         assert_eq!(number, 22);
         self.do_not_follow[reason] += 1;
+        let (date, balance) = end_of(last.unwrap());
+        assert_eq!(words[5..7], [date.to_string(), balance.to_string()]);
+        let new = &list[in_journal(journal).len()..];
+        let is_own = |records: &Records| key_of(records) == key_of(&from_there[0]);
+        self.behind_new_ones[0] += usize::from(new.iter().any(is_own));
+        self.behind_new_ones[1] += usize::from(!new.iter().all(is_own));
     }
 
     /// The list so far. After pokes that left the journal sound it is what the body lines say.
@@ -286,7 +314,8 @@ fn assert_retries(journal: &[u8], sent: &[Records]) {
 /// was there before, else from its first place in the file.
 fn assert_newest(journal: &[u8], line_end: u64, key: &[u8], file: &[u8]) {
     let mut copy = journal.to_vec();
-    let expected = deliver(&mut copy, line_end, file).and_then(|_| {
+    let answer = deliver(&mut copy, line_end, file).map_err(|refused| refused.refusal);
+    let expected = answer.and_then(|_| {
         let after = in_journal(&copy);
         let mut last_first = after.iter().rev();
         let last = last_first.find(|records| key_of(records) == key);
@@ -353,6 +382,8 @@ fn generated_series_keep_the_rules() {
         do_not_follow.iter().all(|&count| count > 50),
         "{do_not_follow:?}"
     );
+    let [own, others] = watch.behind_new_ones;
+    assert!(own > 100 && others > 80, "{own} {others}");
 }
 
 #[test]

@@ -1,40 +1,19 @@
-//! Files of which nothing is stored: ignored, empty, corrected, too large.
+//! Files of which nothing is stored: ignored, empty, too large.
 
 use super::months::next_month;
 use super::names::ignored_name;
 use super::plan::{Letter, Plan};
 use crate::damage::giants;
 use crate::rng::Rng;
-use crate::series_cases::accounts::{file, relabelled};
+use crate::series_cases::accounts::file;
 use crate::valid::Draft;
 
 pub fn add(rng: &mut Rng, plan: &mut Plan) {
-    match rng.below(5) {
-        0 => {
-            plan.send_bytes(rng, Vec::new());
-            plan.tries("empty-file");
-        }
-        1 => corrected(rng, plan),
-        _ => ignored(rng, plan),
-    }
-}
-
-/// Another statement of a month that is held: it is not held itself, and it does not follow. So the
-/// chain has nothing of it.
-fn corrected(rng: &mut Rng, plan: &mut Plan) {
-    let held = |index: &usize| plan.chains[*index].held > 0;
-    let places: Vec<usize> = (0..plan.chains.len()).filter(held).collect();
-    if places.is_empty() {
-        return;
-    }
-    let chain = &plan.chains[rng.pick(&places)];
-    let statement = &chain.statements[rng.index(chain.held)];
-    let other = relabelled(rng, statement);
-    // A statement without movements has no label.
-    if other.records != statement.records {
-        let bytes = file(rng.below(3), &[&other]);
-        plan.send_bytes(rng, bytes);
-        plan.tries("corrected");
+    if rng.one_in(4) {
+        plan.send_bytes(rng, Vec::new());
+        plan.tries("empty-file");
+    } else {
+        ignored(rng, plan);
     }
 }
 

@@ -1,6 +1,7 @@
 //! The journal before the night, and how much room is left in it.
 
 use super::ends::ends;
+use super::never::add_beside_single_day;
 use super::plan::{Chain, Known, Plan};
 use super::NightCase;
 use crate::cash_cases::statements::journal_of;
@@ -38,6 +39,7 @@ pub fn end(rng: &mut Rng, mut plan: Plan) -> NightCase {
     if room != Room::Enough {
         add_held(rng, &mut plan, &background);
     }
+    add_beside_single_day(rng, &mut plan, &background);
     let held = plan
         .chains
         .iter()
@@ -91,7 +93,7 @@ fn lines_that_wait(plan: &Plan) -> usize {
 }
 
 /// Statements of another account, later than all that come: none, some, or so many that the table
-/// has too few entries left.
+/// has too few entries left. The last of several may be of a single day.
 fn background(rng: &mut Rng, plan: &mut Plan, room: Room, coming: usize) -> Vec<Statement> {
     let held: usize = plan.chains.iter().map(|chain| chain.held).sum();
     let count = match room {
@@ -106,8 +108,13 @@ fn background(rng: &mut Rng, plan: &mut Plan, room: Room, coming: usize) -> Vec<
         value: account.last.value,
     };
     let mut statements = Vec::new();
-    for _ in 0..count {
-        statements.push(account.next_quiet(rng));
+    for number in 1..=count {
+        let single_day = number > 1 && number == count && rng.one_in(2);
+        statements.push(if single_day {
+            account.empty_period(rng, &[])
+        } else {
+            account.next_quiet(rng)
+        });
     }
     match room {
         Room::Enough => {}

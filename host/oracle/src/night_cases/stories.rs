@@ -1,6 +1,7 @@
 //! Accounts whose statements come in the night.
 
 use super::months::Habits;
+use super::never::corrected;
 use super::plan::Plan;
 use crate::rng::Rng;
 use crate::valid::Statement;
@@ -10,7 +11,7 @@ use crate::write::shuffle;
 type Make = fn(&mut Rng, &mut Plan);
 
 /// The stories, how many accounts they have at most, and how common they are.
-const STORIES: [(Make, usize, usize); 14] = [
+const STORIES: [(Make, usize, usize); 15] = [
     (known, 1, 8),
     (new, 1, 4),
     (dormant, 1, 3),
@@ -20,11 +21,12 @@ const STORIES: [(Make, usize, usize); 14] = [
     (dormant_astride, 3, 3),
     (behind, 3, 3),
     (stuck, 2, 3),
+    (stuck_for_ever, 2, 3),
     (crossed, 2, 1),
     (gap_inside, 1, 1),
     (missing, 1, 4),
     (dormant_missing, 1, 2),
-    (backwards, 1, 3),
+    (backwards, 1, 5),
 ];
 
 /// Those of a first night.
@@ -239,6 +241,23 @@ fn stuck(rng: &mut Rng, plan: &mut Plan) {
         plan.tries("first-month-stuck");
         plan.ends_after(new, 0);
     }
+}
+
+/// The same with a corrected month of the other account: it can never be stored.
+fn stuck_for_ever(rng: &mut Rng, plan: &mut Plan) {
+    plan.tries("first-month-stuck-for-ever");
+    let months = plan.months(rng);
+    let held = 1 + rng.index(2);
+    let known = plan.chain(rng, &months, 0..held + 1, held);
+    let new = plan.chain(rng, &months, held..held + 3, 0);
+    let month = plan.month(known, rng.index(held));
+    let both = vec![corrected(rng, &month), plan.month(new, held)];
+    send_in_any_order(rng, plan, both);
+    for (chain, month) in [(new, held + 1), (known, held), (new, held + 2)] {
+        let statement = plan.month(chain, month);
+        plan.send(rng, vec![statement], Some(plan.stories));
+    }
+    plan.ends_after(new, 0);
 }
 
 /// Two files of two accounts. Each has the next month of the one and a later month of the other, so

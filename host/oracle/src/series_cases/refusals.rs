@@ -1,6 +1,7 @@
 //! Files that are refused: by the check, for the journal, or in a later statement.
 
-use super::accounts::{file, relabelled, Account};
+use super::accounts::{apart, file, in_some_writing, relabelled, Account, ZONES};
+use super::deliveries::overlap;
 use super::script::Script;
 use crate::damage::recipes;
 use crate::rng::Rng;
@@ -9,7 +10,7 @@ use crate::write::{one_of_each_family, small_damaged_case};
 
 /// The largest line-end number that a header has room for.
 const MOST_LINE_END: u64 = 9_999_999_999_999_999_999;
-/// Damaged files go into a series up to this size.
+/// More files go into a series up to this size.
 const ENOUGH_BYTES: usize = 90_000;
 
 /// The second, third or last statement does not follow, after held ones and ones that would be
@@ -46,6 +47,54 @@ pub fn later_in_the_file(rng: &mut Rng, script: &mut Script) {
     spoilt(rng, script, &[&held[0], &next[0], &next[1]]);
     script.deliver(0, &[&held[0], &next[0], &next[1], &next[2]]);
     script.sound();
+}
+
+/// Held statements and new ones of three accounts, then one that does not follow the last of its
+/// account, wherever that stands. Some of the accounts end with nothing. What stands before it is
+/// delivered now and then.
+pub fn behind_new_ones(rng: &mut Rng, script: &mut Script) {
+    script.fresh(300);
+    let mut accounts = three_accounts(rng);
+    let mut sent: Vec<Statement> = accounts.iter_mut().map(|one| one.next(rng)).collect();
+    script.deliver(rng.below(3), &sent.iter().collect::<Vec<_>>());
+    for _ in 0..12 {
+        if script.bytes.len() > ENOUGH_BYTES {
+            break;
+        }
+        let (mut later, mut sent_later) = (accounts.clone(), sent.clone());
+        let mut file = overlap(rng, &mut later, &mut sent_later);
+        let account = &mut later[rng.index(3)];
+        if rng.one_in(3) {
+            let to_nil = account.next_to_nil(rng);
+            file.push(in_some_writing(rng, &to_nil));
+            sent_later.push(to_nil);
+        }
+        let before = file.len();
+        let (days, money) = rng.pick(&[(0, 1), (0, 10), (3, 1), (-1, 0), (-1, 1), (-31, 0)]);
+        file.push(account.astray(rng, days, money));
+        // What stands behind it is not looked at.
+        file.push(account.clone().next(rng));
+        let all: Vec<&Statement> = file.iter().collect();
+        let end = all.len() - rng.index(2);
+        script.deliver(rng.below(3), &all[..end]);
+        if rng.one_in(2) {
+            script.deliver(rng.below(3), &all[..before]);
+            accounts = later;
+            sent = sent_later;
+        }
+    }
+    script.sound();
+}
+
+/// Two accounts one zone apart that begin with the same balance, and another one.
+fn three_accounts(rng: &mut Rng) -> [Account; 3] {
+    let one = Account::new(rng);
+    let zone = rng.pick(&ZONES);
+    let near = Account {
+        key: apart(rng, &one.key, zone),
+        last: one.last,
+    };
+    [one, near, Account::new(rng)]
 }
 
 /// A fault of the file in a later statement, or behind all, comes before all statements.

@@ -126,6 +126,12 @@ fn month_ends_command() {
     assert_lines_of_runs("series-month-ends", directory.to_str().unwrap(), 10);
 }
 
+#[test]
+fn expected_command() {
+    let directory = PathBuf::from(env!("CARGO_TARGET_TMPDIR")).join("expected");
+    assert_lines_of_runs("series-expected", directory.to_str().unwrap(), 11);
+}
+
 /// A command writes so many numbered series and prints the lines of their runs.
 fn assert_lines_of_runs(command: &str, directory: &str, count: usize) {
     let printed = oracle(&[command, directory], b"").stdout;
@@ -140,7 +146,7 @@ fn assert_lines_of_runs(command: &str, directory: &str, count: usize) {
 
 #[test]
 fn mistakes_in_the_call() {
-    let calls: [&[&str]; 13] = [
+    let calls: [&[&str]; 14] = [
         &["place", "1"],
         &["place", "x", "no such file", "1"],
         &["movement", "1", "no such file", "1"],
@@ -153,6 +159,7 @@ fn mistakes_in_the_call() {
         &["nil"],
         &["series-nil"],
         &["series-month-ends"],
+        &["series-expected"],
         &["series-of-no-kind", "no such directory"],
     ];
     for arguments in calls {

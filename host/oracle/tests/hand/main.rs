@@ -8,6 +8,7 @@ mod common;
 mod contents;
 mod delivery;
 mod earliest;
+mod expected;
 mod journal;
 mod listing;
 mod month_ends;

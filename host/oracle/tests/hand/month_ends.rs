@@ -342,7 +342,7 @@ fn lines_of_at_or_after() {
         expected.extend(if follows {
             ["N file 0 242 1", "D stored 1 held 0"]
         } else {
-            ["N refused 22 1", "D refused 22 1"]
+            ["N refused 22 1", "D refused 22 1 expected 20251128 100"]
         });
         expected.push("S sound");
     }
@@ -366,9 +366,9 @@ fn lines_of_in_one_file() {
         } else {
             [
                 "N refused 22 3",
-                "D refused 22 3",
+                "D refused 22 3 expected 20251128 100",
                 "D stored 1 held 0",
-                "D refused 22 3",
+                "D refused 22 3 expected 20251128 100",
                 "E at 7680 240",
                 "E refused 25 0",
             ]
@@ -386,7 +386,7 @@ fn lines_of_the_turn_of_the_century() {
         expected.push(if follows {
             "D stored 1 held 0"
         } else {
-            "D refused 22 1"
+            "D refused 22 1 expected 19991231 100"
         });
         expected.push("S sound");
     }
@@ -395,8 +395,8 @@ fn lines_of_the_turn_of_the_century() {
         "O opened",
         "D stored 1 held 0",
         "D stored 1 held 0",
-        "D refused 22 1",
-        "D refused 22 1",
+        "D refused 22 1 expected 20791231 100",
+        "D refused 22 1 expected 20791231 100",
         "D stored 1 held 0",
         "S sound",
         "E at 7680 240",
@@ -424,9 +424,9 @@ fn lines_of_held_first() {
         "E refused 25 0",
         "J 8160",
         "O opened",
-        "D refused 22 3",
+        "D refused 22 3 expected 20251231 100",
         "D stored 1 held 0",
-        "D refused 22 3",
+        "D refused 22 3 expected 20251231 100",
         "S sound",
     ];
     assert_eq!(lines("M2-held-is-asked-first"), expected);
@@ -448,9 +448,9 @@ const ASKED_UNSOUND: [&str; 8] = [
     "E refused 21 0",
     "E refused 21 0",
     "E refused 21 0",
-    "D refused 21 0",
+    "D refused 21 0 expected 0 0",
     "N refused 21 0",
-    "D refused 21 0",
+    "D refused 21 0 expected 0 0",
     "N refused 21 0",
 ];
 
@@ -472,7 +472,7 @@ fn lines_of_delivered() {
 #[test]
 fn lines_of_laid_out() {
     let mut asked_of_another = ASKED;
-    asked_of_another[6] = "D refused 22 1";
+    asked_of_another[6] = "D refused 22 1 expected 20251231 100";
     let mut expected = vec!["J 8280", "O opened"];
     expected.extend(ASKED);
     // 281125, 291125, 271125, 011225, 291025, 311225, 010180.
@@ -546,15 +546,15 @@ fn lines_of_corrected() {
         "J 9120",
         "O opened",
         "D stored 1 held 0",
-        "D refused 22 1",
-        "D refused 22 3",
+        "D refused 22 1 expected 20251128 100",
+        "D refused 22 3 expected 20251128 100",
         "D stored 1 held 0",
         "D stored 0 held 1",
         "D stored 1 held 0",
         "D stored 0 held 1",
         "D stored 1 held 0",
         "D stored 0 held 1",
-        "D refused 22 1",
+        "D refused 22 1 expected 20251130 105",
         "S sound",
         "E at 7680 240",
         "E at 7920 240",
@@ -567,7 +567,16 @@ fn lines_of_corrected() {
 
 #[test]
 fn lines_of_passed_over() {
-    let passed = ["D refused 22 1", "D refused 22 3", "N refused 22 1"];
+    let passed = [
+        "D refused 22 1 expected 20250131 100",
+        "D refused 22 3 expected 20250131 100",
+        "N refused 22 1",
+    ];
+    let passed_again = [
+        "D refused 22 1 expected 20250228 101",
+        "D refused 22 3 expected 20250228 101",
+        "N refused 22 1",
+    ];
     let before = [
         "J 9120",
         "O opened",
@@ -589,12 +598,17 @@ fn lines_of_passed_over() {
         "D stored 0 held 4",
         "S sound",
     ];
-    let in_wrong_order = ["J 9120", "O opened", "D refused 22 5", "S sound"];
+    let in_wrong_order = [
+        "J 9120",
+        "O opened",
+        "D refused 22 5 expected 20250131 100",
+        "S sound",
+    ];
     let expected = [
         &before[..],
         &passed,
         &["D stored 1 held 0"],
-        &passed,
+        &passed_again,
         &["D stored 0 held 1"],
         &after,
         &in_order,
@@ -609,9 +623,9 @@ fn lines_of_within_a_statement() {
         "J 8640",
         "O opened",
         "D stored 1 held 0",
-        "D refused 12 2",
-        "D refused 12 4",
-        "D refused 12 2",
+        "D refused 12 2 expected 0 0",
+        "D refused 12 4 expected 0 0",
+        "D refused 12 2 expected 0 0",
         "N refused 12 2",
         "D stored 1 held 0",
         "S sound",

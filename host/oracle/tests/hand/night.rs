@@ -62,6 +62,10 @@ fn left(number: u32, record: u64) -> Fate {
     Fate::Left(Refusal { number, record })
 }
 
+fn refused(number: u32, record: u64) -> Fate {
+    Fate::Refused(Refusal { number, record })
+}
+
 /// The journal after the night is one of the same length to which these came in turn.
 fn assert_holds(night: &Night, files: &[Sheet]) {
     let lines = (night.journal.len() - 7_680) / 120;
@@ -227,9 +231,8 @@ fn ignored_and_refused() {
     ];
     let night = run(&journal(9, &[]), &files);
     assert_eq!(night.rounds, [2]);
-    let refusal = |number, record| Fate::Refused(Refusal { number, record });
-    assert_eq!(night.fates["a"], refusal(14, 1));
-    assert_eq!(night.fates["e"], refusal(6, 2));
+    assert_eq!(night.fates["a"], refused(14, 1));
+    assert_eq!(night.fates["e"], refused(6, 2));
     assert_eq!(night.fates["d"], done(0, 0));
     assert_holds(&night, &[month(A, JANUARY)]);
     // Capitals come before small letters, as their bytes do.
@@ -474,8 +477,8 @@ fn of_one_day_the_shorter_first() {
     assert_holds(&night, &[opening, two]);
 }
 
-/// What can no longer be stored holds nothing back: December waits in vain, February follows. What
-/// does not follow is refused.
+/// What can no longer be stored holds nothing back: December is refused, February follows. April may
+/// still follow one day, and is left.
 #[test]
 fn what_is_too_early_holds_nothing_back() {
     let held = busy_month(A, JANUARY);
@@ -486,9 +489,12 @@ fn what_is_too_early_holds_nothing_back() {
     ];
     let night = run(&journal(9, std::slice::from_ref(&held)), &files);
     assert_eq!(night.rounds, [1, 0]);
-    assert_eq!(night.fates["x"], left(22, 1));
+    assert_eq!(night.fates["x"], refused(22, 1));
     assert_eq!(night.fates["y"], done(1, 0));
     assert_eq!(night.fates["z"], left(22, 1));
+    let totals = "done 1, refused 1, left 1, stored 1, held 0\n";
+    assert_eq!(text(&night, "totals"), totals);
+    assert_eq!(text(&night, "status"), "4\n");
     assert_holds(&night, &[held, busy_month(A, FEBRUARY)]);
 }
 
@@ -534,13 +540,7 @@ fn refused_and_ignored_hold_nothing_back() {
     ];
     let night = run(&journal(9, &[]), &files);
     assert_eq!(night.rounds, [1]);
-    assert_eq!(
-        night.fates["a"],
-        Fate::Refused(Refusal {
-            number: 6,
-            record: 2
-        })
-    );
+    assert_eq!(night.fates["a"], refused(6, 2));
     assert_eq!(night.fates["c"], done(1, 0));
     assert_eq!(
         text(&night, "begun"),
@@ -638,7 +638,7 @@ fn a_dormant_account_in_a_file_of_two() {
 }
 
 /// February does not come: nothing tells that it is missing, and March passes it over. The next
-/// night it is too early.
+/// night it is too early for ever.
 #[test]
 fn a_dormant_month_is_passed_over() {
     let held = month(A, JANUARY);
@@ -653,7 +653,7 @@ fn a_dormant_month_is_passed_over() {
     );
     let second = run(&first.journal, &[("z", month(A, FEBRUARY))]);
     assert_eq!(second.rounds, [0]);
-    assert_eq!(second.fates["z"], left(22, 1));
+    assert_eq!(second.fates["z"], refused(22, 1));
     assert_holds(&second, &after);
 }
 
@@ -720,12 +720,12 @@ fn on_the_very_day_of_the_last() {
     let night = run(&before, &files);
     assert_eq!(night.rounds, [2]);
     assert_holds(&night, &[held.clone(), one_day, february]);
-    // A day later the fortnight comes first, and then the other is too early.
+    // A day later the fortnight comes first, and then the other is too early for ever.
     let late = period(A, "010225", "280225");
     let files = [("a", late), ("b", fortnight.clone())];
     let night = run(&before, &files);
-    assert_eq!(night.rounds, [1, 0]);
-    assert_eq!(night.fates["a"], left(22, 1));
+    assert_eq!(night.rounds, [1]);
+    assert_eq!(night.fates["a"], refused(22, 1));
     assert_holds(&night, &[held, fortnight]);
 }
 
@@ -775,4 +775,236 @@ fn statements_before_it_in_its_file() {
     assert_eq!(night.fates["x"], done(2, 0));
     assert_eq!(night.fates["y"], left(22, 3));
     assert_holds(&night, &[held, busy_month(B, JANUARY), both]);
+}
+
+/// A month once more, with another label.
+fn corrected_month(account: &[u8; 11], month: usize) -> Sheet {
+    busy_month(account, month).set(2, 49, b"CORRECTED")
+}
+
+/// A journal that holds January and February.
+fn two_months_held() -> Vec<u8> {
+    journal(20, &[busy_month(A, JANUARY), busy_month(A, FEBRUARY)])
+}
+
+/// A corrected month begins before the last one that is held ends, and so does an older month:
+/// nothing of such a file can ever be stored, and it goes.
+#[test]
+fn corrected_and_older_months_are_refused() {
+    let before = two_months_held();
+    let never = [
+        corrected_month(A, JANUARY),
+        corrected_month(A, FEBRUARY),
+        busy_month(A, DECEMBER),
+        corrected_month(A, JANUARY).then(busy_month(A, DECEMBER)),
+    ];
+    for file in never {
+        let night = run(&before, &[("x", file)]);
+        assert_eq!(night.rounds, [0]);
+        assert_eq!(night.fates["x"], refused(22, 1));
+        assert!(night.journal == before);
+        assert_eq!(text(&night, "refused"), "x\n");
+        assert_eq!(text(&night, "left"), "");
+        let totals = "done 0, refused 1, left 0, stored 0, held 0\n";
+        assert_eq!(text(&night, "totals"), totals);
+        assert_eq!(text(&night, "status"), "1\n");
+    }
+}
+
+/// Beside held ones it goes too: none of them is to be stored.
+#[test]
+fn a_corrected_month_beside_held_ones() {
+    let before = two_months_held();
+    let [january, february] = [JANUARY, FEBRUARY].map(|one| busy_month(A, one));
+    let files = [
+        ("x", january.clone().then(corrected_month(A, FEBRUARY))),
+        ("y", corrected_month(A, JANUARY).then(february.clone())),
+        ("z", february.then(january)),
+    ];
+    let night = run(&before, &files);
+    assert_eq!(night.rounds, [1]);
+    assert_eq!(night.fates["x"], refused(22, 4));
+    assert_eq!(night.fates["y"], refused(22, 1));
+    assert_eq!(night.fates["z"], done(0, 2));
+    assert!(night.journal == before);
+    assert_eq!(text(&night, "status"), "1\n");
+}
+
+/// A held one of a single day begins on the last new date and not before it. It is held all the same.
+#[test]
+fn a_corrected_month_beside_a_held_day() {
+    let one_day = period(A, "310125", "310125");
+    let nothing = movement("05", "310125", "310125", "0000000000000{");
+    let corrected = month(A, JANUARY).with(2, nothing).set(2, 22, A);
+    let before = journal(9, &[month(A, JANUARY), one_day.clone()]);
+    let night = run(&before, &[("x", one_day.clone().then(corrected.clone()))]);
+    assert_eq!(night.fates["x"], refused(22, 3));
+    // Another one of that day may still be stored.
+    let other = one_day.set(1, 103, b"1").set(2, 103, b"1");
+    let night = run(&before, &[("x", other.then(corrected))]);
+    assert_eq!(night.fates["x"], left(22, 1));
+    assert!(night.journal == before);
+}
+
+/// What is held is asked as it is stored: with a debit zero the held one is the same.
+#[test]
+fn a_corrected_month_beside_a_held_one_with_the_other_zero() {
+    let nil = |zero: &[u8]| month(A, JANUARY).set(1, 91, zero).set(2, 91, zero);
+    let (credit, debit) = (b"0000000000000{", b"0000000000000}");
+    let nothing = movement("05", "310125", "310125", "0000000000000{");
+    let corrected = nil(credit).with(2, nothing).set(2, 22, A);
+    let before = journal(9, &[nil(credit)]);
+    let night = run(&before, &[("x", nil(debit).then(corrected))]);
+    assert_eq!(night.fates["x"], refused(22, 3));
+    assert!(night.journal == before);
+}
+
+/// Beside a new month it stays, wherever in the file that stands, and holds the next one back.
+#[test]
+fn a_corrected_month_beside_a_new_one() {
+    let before = two_months_held();
+    let (corrected, march) = (corrected_month(A, JANUARY), busy_month(A, MARCH));
+    let files = [
+        (corrected.clone().then(march.clone()), left(22, 1)),
+        (march.then(corrected), left(22, 4)),
+    ];
+    for (file, fate) in files {
+        let night = run(&before, &[("x", file), ("y", busy_month(A, APRIL))]);
+        assert_eq!(night.rounds, [0]);
+        assert_eq!(night.fates["x"], fate);
+        assert_eq!(night.fates["y"], Fate::HeldBack);
+        assert!(night.journal == before);
+        assert_eq!(text(&night, "left"), "x\ny\n");
+        assert_eq!(text(&night, "status"), "4\n");
+    }
+}
+
+/// So it does beside the first month of another account, which does not begin then.
+#[test]
+fn a_corrected_month_beside_a_first_one() {
+    let before = two_months_held();
+    let both = corrected_month(A, FEBRUARY).then(month(B, JANUARY));
+    let night = run(&before, &[("x", both), ("y", month(B, FEBRUARY))]);
+    assert_eq!(night.rounds, [0]);
+    assert_eq!(night.fates["x"], left(22, 1));
+    assert_eq!(night.fates["y"], Fate::HeldBack);
+    assert_eq!(text(&night, "begun"), "");
+}
+
+/// Where the new month comes in another file too, nothing is left of the first one once it is held:
+/// in the next round, or later in the same.
+#[test]
+fn a_corrected_month_beside_one_that_comes() {
+    let before = two_months_held();
+    let march = busy_month(A, MARCH);
+    let before_it = corrected_month(A, JANUARY).then(march.clone());
+    let behind_it = march.clone().then(corrected_month(A, FEBRUARY));
+    // This one begins earlier, so that its turn comes first.
+    let two = month(B, DECEMBER).then(march.clone());
+    let cases = [
+        (
+            before_it.clone(),
+            march.clone(),
+            &[1, 0][..],
+            refused(22, 1),
+        ),
+        (behind_it, march, &[1, 0], refused(22, 4)),
+        (before_it, two, &[1], refused(22, 1)),
+    ];
+    for (both, other, rounds, fate) in cases {
+        let night = run(&before, &[("x", both), ("y", other)]);
+        assert_eq!(night.rounds, rounds);
+        assert_eq!(night.fates["x"], fate);
+        assert!(matches!(night.fates["y"], Fate::Done(_)));
+        assert_eq!(text(&night, "status"), "1\n");
+    }
+}
+
+/// Months in the wrong order inside a file. Each could still be stored from another file, so it is
+/// left, whether anything is held of the account or not, dormant or not.
+#[test]
+fn months_in_the_wrong_order_are_left() {
+    // Nothing is held: February begins the account, January cannot follow it. December is held:
+    // February does not follow it, or it does and January does not.
+    let ends = [[left(22, 4), left(22, 1)], [left(22, 3), left(22, 3)]];
+    for (month, [new, known]) in [busy_month, month].into_iter().zip(ends) {
+        let december = [month(A, DECEMBER)];
+        for (held, fate) in [(&[][..], new), (&december, known)] {
+            assert_left_backwards(&journal(20, held), month, fate);
+        }
+    }
+}
+
+/// A file of February and January is left so. Once both have come by themselves it is held.
+fn assert_left_backwards(before: &[u8], month: fn(&[u8; 11], usize) -> Sheet, fate: Fate) {
+    let backwards = month(A, FEBRUARY).then(month(A, JANUARY));
+    let night = run(before, &[("x", backwards.clone())]);
+    assert_eq!(night.rounds, [0]);
+    assert_eq!(night.fates["x"], fate);
+    assert!(night.journal == before);
+    assert_eq!(text(&night, "status"), "4\n");
+    let files = [
+        ("x", backwards),
+        ("y", month(A, JANUARY)),
+        ("z", month(A, FEBRUARY)),
+    ];
+    let night = run(before, &files);
+    assert_eq!(night.fates["x"], done(0, 2));
+    assert_eq!(text(&night, "status"), "0\n");
+}
+
+/// What begins on the very day that the last one ends, with another balance, is left. Once the right
+/// one is held it is too early for ever.
+#[test]
+fn on_the_very_day_with_another_balance() {
+    let before = journal(20, &[busy_month(A, JANUARY)]);
+    let (right, wrong) = (busy_month(A, FEBRUARY), month(A, FEBRUARY));
+    let night = run(&before, &[("x", wrong.clone())]);
+    assert_eq!(night.rounds, [0]);
+    assert_eq!(night.fates["x"], left(22, 1));
+    assert_eq!(text(&night, "status"), "4\n");
+    // Its turn comes before the right one's, or after it.
+    for (name, rounds) in [("x", &[1, 0][..]), ("z", &[1])] {
+        let night = run(&before, &[(name, wrong.clone()), ("y", right.clone())]);
+        assert_eq!(night.rounds, rounds);
+        assert_eq!(night.fates[name], refused(22, 1));
+        assert_eq!(night.fates["y"], done(1, 0));
+        let totals = "done 1, refused 1, left 0, stored 1, held 0\n";
+        assert_eq!(text(&night, "totals"), totals);
+        assert_eq!(text(&night, "status"), "1\n");
+    }
+}
+
+/// What another account holds, if only a zone apart, makes nothing too early.
+#[test]
+fn too_early_for_its_own_account() {
+    let held = [busy_month(A, APRIL), busy_month(B, DECEMBER)];
+    let before = journal(20, &held);
+    let files = [("x", busy_month(B, FEBRUARY)), ("y", busy_month(A, MARCH))];
+    let night = run(&before, &files);
+    assert_eq!(night.fates["x"], left(22, 1));
+    assert_eq!(night.fates["y"], refused(22, 1));
+    assert!(night.journal == before);
+}
+
+/// 1999 is before 2000, and not after it.
+#[test]
+fn too_early_at_the_turn_of_the_century() {
+    let before = journal(9, &[period(A, "311299", "310100")]);
+    let night = run(&before, &[("x", period(A, "301199", "311299"))]);
+    assert_eq!(night.fates["x"], refused(22, 1));
+    let before = journal(9, &[period(A, "301199", "311299")]);
+    let other = |sheet: Sheet| sheet.set(1, 103, b"1").set(2, 103, b"1");
+    let night = run(&before, &[("x", other(period(A, "010100", "310100")))]);
+    assert_eq!(night.fates["x"], left(22, 1));
+}
+
+/// A file without room waits, also where a corrected month stands behind.
+#[test]
+fn without_room_a_file_waits() {
+    let before = journal(6, &[busy_month(A, JANUARY), busy_month(A, FEBRUARY)]);
+    let both = busy_month(A, MARCH).then(corrected_month(A, JANUARY));
+    let night = run(&before, &[("x", both)]);
+    assert_eq!(night.fates["x"], left(24, 1));
+    assert_eq!(text(&night, "status"), "4\n");
 }

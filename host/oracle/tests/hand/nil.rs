@@ -625,7 +625,7 @@ fn lines_of_two_files() {
         "D stored 1 held 0",
         "D stored 0 held 1",
         "D stored 0 held 1",
-        "D refused 24 1",
+        "D refused 24 1 expected 0 0",
         "J 8160",
         "O opened",
         "D stored 1 held 0",
@@ -642,10 +642,10 @@ fn lines_of_nil_after_nil() {
         "J 9120",
         "O opened",
         "D stored 1 held 0",
-        "D refused 22 1",
+        "D refused 22 1 expected 20250228 0",
         "D stored 1 held 0",
-        "D refused 22 1",
-        "D refused 22 5",
+        "D refused 22 1 expected 20250331 0",
+        "D refused 22 5 expected 20250331 0",
         "S sound",
     ];
     let in_one_file = [
@@ -682,7 +682,7 @@ fn lines_of_bodies() {
         "S unsound",
         "E refused 21 0",
         "E refused 21 0",
-        "D refused 21 0",
+        "D refused 21 0 expected 0 0",
         "N refused 21 0",
         "S sound",
     ];

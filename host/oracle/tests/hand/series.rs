@@ -53,10 +53,10 @@ fn a_series_and_its_lines() {
         "N journal 7680 480 0",
         "N file 0 360 0",
         "N refused 1 0",
-        "D refused 2 0",
+        "D refused 2 0 expected 0 0",
         "S unsound",
         "S sound",
-        "D refused 22 1",
+        "D refused 22 1 expected 20250228 120833",
     ];
     assert_eq!(words, expected);
     // A retry and a refusal leave the journal as it is.
@@ -98,7 +98,7 @@ fn hashes_by_hand() {
         let expected = [
             format!("J {length}"),
             format!("O refused 21 0 {expected}"),
-            format!("D refused 21 0 {expected}"),
+            format!("D refused 21 0 expected 0 0 {expected}"),
         ];
         assert_eq!(lines(&series.concat()), expected);
     }
@@ -122,7 +122,11 @@ fn pokes() {
         poke(9_999_999_999_999_999_999, 9),
         operation('D', 0, 0, b""),
     ];
-    let expected = ["D refused 21 0 0", "J 2", "D refused 21 0 286"];
+    let expected = [
+        "D refused 21 0 expected 0 0 0",
+        "J 2",
+        "D refused 21 0 expected 0 0 286",
+    ];
     assert_eq!(lines(&series.concat()), expected);
 }
 

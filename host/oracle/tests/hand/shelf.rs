@@ -2,7 +2,7 @@
 //! written out.
 
 use crate::common::{balance, movement, worked, Sheet};
-use oracle::delivery::{deliver, Delivered};
+use oracle::delivery::{deliver, Delivered, NotDelivered};
 use oracle::read::Refusal;
 
 /// The entries of the three months, each with its first line at the end of another.
@@ -126,7 +126,7 @@ pub fn file(sheets: &[Sheet], line_end: u64) -> Vec<u8> {
 
 /// Delivers statements with each line end to a copy of the journal. Gives the one answer and the
 /// journal after it; a refusal has left it as it was.
-pub fn delivered(journal: &[u8], sheets: &[Sheet]) -> (Result<Delivered, Refusal>, Vec<u8>) {
+pub fn answered(journal: &[u8], sheets: &[Sheet]) -> (Result<Delivered, NotDelivered>, Vec<u8>) {
     let outcomes = [0, 1, 2].map(|line_end| {
         let mut copy = journal.to_vec();
         let answer = deliver(&mut copy, line_end, &file(sheets, line_end));
@@ -141,10 +141,23 @@ pub fn delivered(journal: &[u8], sheets: &[Sheet]) -> (Result<Delivered, Refusal
     (answer, after)
 }
 
-pub fn stored(stored: u64, held: u64) -> Result<Delivered, Refusal> {
+/// The same without what was expected. That is nothing where the refusal is not 22.
+pub fn delivered(journal: &[u8], sheets: &[Sheet]) -> (Result<Delivered, Refusal>, Vec<u8>) {
+    let (answer, after) = answered(journal, sheets);
+    let answer = answer.map_err(|NotDelivered { refusal, expected }| {
+        let does_not_follow = refusal.number == 22;
+        assert_eq!(expected.date != 0, does_not_follow);
+        assert!(does_not_follow || expected.balance == 0);
+        refusal
+    });
+    (answer, after)
+}
+
+pub fn stored<E>(stored: u64, held: u64) -> Result<Delivered, E> {
     Ok(Delivered { stored, held })
 }
 
-pub fn refusal<T>(number: u32, record: u64) -> Result<T, Refusal> {
-    Err(Refusal { number, record })
+/// A refusal of any call; of a delivery one with which nothing was expected.
+pub fn refusal<T, E: From<Refusal>>(number: u32, record: u64) -> Result<T, E> {
+    Err(Refusal { number, record }.into())
 }
