@@ -88,10 +88,11 @@ static const struct subcommand subcommands[] = {
      .operands = "JOURNAL INCOMING DONE REFUSED",
      .summary = "delivers the files of a folder and puts them away",
      .text = "Delivers the files that wait in the folder INCOMING, those with the earliest old balance date first,\n"
-             "in rounds as long as files are stored or held. Moves these to DONE, and what is refused by its own\n"
-             "fault (1 to 15) or can never follow (22) to REFUSED, with its answer in NAME.answer beside it. What\n"
-             "the journal cannot take now (22 to 24) is left, and so is a file that waits for another with an\n"
-             "earlier statement of an account. No file is overwritten: a number is put behind its name.\n"
+             "in rounds as long as files are put away. Moves what is stored or held to DONE, and what is refused\n"
+             "by its own fault (1 to 15) or can never follow (22) to REFUSED, with its answer in NAME.answer\n"
+             "beside it. What the journal cannot take now (22 to 24) is left, and so is a file that waits for\n"
+             "another with an earlier statement of an account. No file is overwritten: a number is put behind its\n"
+             "name.\n"
              "Names that begin with . or end in .part, .tmp, .filepart or ~ are files under way, and are left.\n"
              "\n"
              "Prints 'FILE: stored S, held H, moved to PATH' for each file, last 'JOURNAL: done D, refused R,\n"

@@ -37,15 +37,24 @@ bool find_expected(const struct bytes *journal, const struct entry *entries, siz
     return true;
 }
 
-/* What it means, and what to do about it. */
-static const char *meaning(enum unfollowed why) {
-    switch (why) {
-    case ONE_IS_MISSING: return "a statement is missing; ask the bank for what lies between";
+/* What it means, and what to do about it. Where the file itself has what comes before, that is not held: what lies
+ * between, delivered alone, would not follow, or would shut it out. */
+static const char *meaning(const struct expected *expected) {
+    switch (expected->why) {
+    case ONE_IS_MISSING:
+        return expected->by_file ? "a statement is missing in the file; ask the bank for one file with all of them"
+                                 : "a statement is missing; ask the bank for what lies between";
     case OTHER_BALANCE:
-        return "its balance is another; a statement of that day is missing, or one was corrected: ask the bank which";
+        return expected->by_file
+                   ? "its balance is another; a statement of that day is missing in the file, or one was corrected: "
+                     "ask the bank for one file with all of them"
+                   : "its balance is another; a statement of that day is missing, or one was corrected: ask the bank "
+                     "which";
     case CAN_NEVER_FOLLOW:
         return "an older statement or a corrected one, which can never follow; a person has to decide";
-    case OUT_OF_ORDER: return "the file has a later one before it; ask the bank for them in their order";
+    case OUT_OF_ORDER:
+        return "the file has one before it that ends later: they are out of order, or one corrects the other; ask the "
+               "bank which";
     }
     return "";
 }
@@ -68,7 +77,7 @@ void write_expected(FILE *out, const struct expected *expected) {
     spell_number(number_of(expected->balance, decimals_of(row)), "", balance);
     fprintf(out, "account %s: expected %s with %s%s, it begins on %s%s: %s", key, date, balance,
             expected->by_file ? " by what stands before it in the file" : "", begins, beside_that(expected->why),
-            meaning(expected->why));
+            meaning(expected));
 }
 
 /* What was expected, and by which journal. */

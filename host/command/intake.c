@@ -95,18 +95,15 @@ static void put_to_done(struct night *night, struct waiting_file *file, int desc
     free(moved);
 }
 
-/* A refused file's answer, and where the file went; NULL where it was not moved. */
+/* A refused file's answer, by which journal, and where the file went; NULL where it was not moved. */
 struct put_away {
     const struct delivered *delivered;
+    const char *journal;
     const char *moved;
 };
 
-/* What was expected, where that is known, with something behind it. */
-static void write_expected_with(FILE *out, const struct delivered *delivered, const char *behind) {
-    if (crownhazel_refusal(delivered->answer) == 22) {
-        write_expected(out, &delivered->expected);
-        fprintf(out, "%s", behind);
-    }
+static bool does_not_follow(const struct delivered *delivered) {
+    return crownhazel_refusal(delivered->answer) == 22;
 }
 
 /* The line that stands beside a refused file. */
@@ -115,15 +112,21 @@ static void write_answer(FILE *out, const void *what) {
     uint32_t number = crownhazel_refusal(delivered->answer);
     fprintf(out, "refused with %" PRIu32 " at record %" PRIu32 ": %s", number, crownhazel_record(delivered->answer),
             crownhazel_words(number));
-    fprintf(out, "%s", number == 22 ? "; " : "");
-    write_expected_with(out, delivered, "");
+    if (does_not_follow(delivered)) {
+        fprintf(out, "; ");
+        write_expected(out, &delivered->expected);
+    }
     fprintf(out, "\n");
 }
 
 /* What is said of it. */
 static void write_move(FILE *out, const void *what) {
     const struct put_away *put_away = what;
-    write_expected_with(out, put_away->delivered, "; ");
+    if (does_not_follow(put_away->delivered)) {
+        fprintf(out, "journal %s: ", put_away->journal);
+        write_expected(out, &put_away->delivered->expected);
+        fprintf(out, "; ");
+    }
     fprintf(out, "%s%s", put_away->moved == NULL ? "it was not moved" : "moved to ",
             put_away->moved == NULL ? "" : put_away->moved);
 }
@@ -139,7 +142,7 @@ static void put_to_refused(struct night *night, struct waiting_file *file, int d
         return;
     }
     int status = move_to_refused(&night->folders, file->path, descriptor, &beside, &moved);
-    struct put_away put_away = {delivered, moved};
+    struct put_away put_away = {delivered, night->journal, moved};
     bool told = take_text(write_move, &put_away, &words);
     night->refused += moved != NULL;
     refused_for(file->path, delivered->answer, told ? (const char *)words.first : "");
@@ -152,8 +155,7 @@ static void put_to_refused(struct night *night, struct waiting_file *file, int d
 
 /* Whether the file does not follow, and nothing of it ever can. */
 static bool is_refused_for_ever(const struct waiting_file *file, const struct delivered *delivered) {
-    return crownhazel_refusal(delivered->answer) == 22 &&
-           holds_nothing_new(file, delivered->entries, delivered->count);
+    return does_not_follow(delivered) && holds_nothing_new(file, delivered->entries, delivered->count);
 }
 
 /* What the library has said of a file decides where it goes. */
@@ -242,17 +244,17 @@ static bool look_again(struct night *night) {
 }
 
 /* A file that could not follow may follow what a later one has brought, and one that had to wait for another can come
- * after it, so there is another round as long as a file is delivered. */
+ * after it, so there is another round as long as a file is delivered or put away. */
 static void run_rounds(struct night *night) {
     size_t before;
     do {
-        before = night->delivered;
+        before = night->delivered + night->refused;
         if (look_again(night)) {
             run_round(night);
         } else {
             night->ended = true;
         }
-    } while (!night->ended && night->delivered > before);
+    } while (!night->ended && night->delivered + night->refused > before);
 }
 
 static int tell_behind(const struct night *night, const struct waiting_file *file) {
@@ -275,8 +277,10 @@ static int tell_behind(const struct night *night, const struct waiting_file *fil
 static int tell_refused(const struct night *night, const struct waiting_file *file) {
     int status = refused_delivery(file->path, file->refusal, night->journal, file->lines, &file->expected);
     if (crownhazel_refusal(file->refusal) == 22 && file->expected.why == CAN_NEVER_FOLLOW) {
-        complain(file->path,
-                 "it is left: other statements in it may still be stored; ask the bank for them without that one");
+        complain(file->path, "it is left: %s",
+                 file->periods.whole
+                     ? "other statements in it may still be stored; ask the bank for them without that one"
+                     : "it has too many breaks to look at all that is in it; a person has to");
     }
     return status;
 }

@@ -1,22 +1,24 @@
--- Wrong deliveries, and that demand 3 shuts each of them out: each is caught by a small file, at a journal just opened.
+-- Wrong deliveries, and that demand 3 shuts each of them out: each is caught by a small file, at a journal just opened. And one that expects the last statement held in the place of the last seen.
 use mathlib.Core.Path.{_≡_, refl, sym, ap, _∙_}
 use mathlib.Core.Bool.{Bool, true, false}
 use mathlib.Core.List.{List, [], _∷_}
 use Prim.Native.Nat.{ℕ, _-_, _/_, _≤_}
 use native.Mathlib.Omega.{arith}
+use lib.IntN.{pos}
 use lib.ListN.{length, replicate, length-replicate}
 use Rattle.zones.specs.Choice.{pick}
 use Rattle.zones.specs.Copy.{sameBytes}
 use Rattle.framing.specs.declared.Form.{Form}
+use Rattle.framing.specs.Files.{All}
 use Rattle.grammar.specs.Answer.{refused}
 use Rattle.grammar.specs.Record.{sameKey}
 use Rattle.grammar.specs.Statements.{Statement, sizes}
-use Rattle.grammar.specs.Files.{checkOf, statementsOf}
-use Rattle.records.specs.July.{recordSize, codingOf}
+use Rattle.grammar.specs.Files.{Writable, checkOf, statementsOf}
+use Rattle.records.specs.July.{recordSize, july, codingOf}
 use Rattle.records.specs.Worked.{nil}
 use Rattle.records.proofs.Theorems as T
 use Rattle.records.proofs.Worked.{nil-accepted}
-use Rattle.records.proofs.Small.{form, nil-crlf, two, lone, february, march, nil-holds, two-hold, two-accepted, lone-refused, nil-relined}
+use Rattle.records.proofs.Small.{form, nil-crlf, two, backwards, lone, february, march, first-day, nil-holds, two-hold, backwards-hold, two-accepted, backwards-accepted, lone-refused, nil-relined}
 use Rattle.bodies.specs.Bodies.{identical}
 use Rattle.bodies.proofs.Identical.{identical-equal}
 use Rattle.entries.specs.Entries.{tableSize, lineAt}
@@ -26,12 +28,13 @@ use Rattle.journal_layout.proofs.Exact.{sound-unique, journal-length}
 use Rattle.journal.specs.declared.Delivery.{Delivery}
 use Rattle.journal.specs.declared.Delivery.the-variants.{Done, Refused}
 use Rattle.journal.specs.declared.Refusal.{Refusal}
-use Rattle.journal.specs.Delivery.{verdictOf, delivered, run, linesIn, outcomeOf, contentOf}
-use Rattle.journal.specs.Answers.{Delivers}
+use Rattle.journal.specs.Delivery.{verdictOf, delivered, refused as refusedWith, run, linesIn, outcomeOf, contentOf}
+use Rattle.journal.specs.Answers.{paperDelivery, Delivers}
 use Rattle.journal.specs.Arrivals.{arrivals}
 use Rattle.journal.specs.Series.{deliver, Deliver, after, heldAlong, Demand3}
-use Rattle.journal.proofs.Delivered.{file-writable, outcome-by, opened-long, opened}
+use Rattle.journal.proofs.Delivered.{file-writable, lines-are, outcome-by, opened-long, opened}
 use Rattle.journal.proofs.Paper.{delivers}
+use Rattle.journal.proofs.One.{one-deliver}
 
 -- a journal with room for four records, before it is opened
 unfoldable pub room : List ℕ
@@ -48,16 +51,29 @@ room-right = rw room-long
 four-lines : linesIn (openedOf room) ≡ 4
 four-lines = ap (λ (k : ℕ). (k - tableSize) / recordSize) (opened-long room room-right ∙ room-long)
 
--- the two periods are not identical
-two-differ : identical february march ≡ false
-two-differ = by (identical february march) refl
+-- what ends on different days is not identical
+differ : (s t : Statement) → Writable july s → Writable july t → (s .new-date ≡ t .new-date → ⊥) → identical s t ≡ false
+differ s t w v n = by (identical s t) refl
   where
-    by : (t : Bool) → identical february march ≡ t → identical february march ≡ false
-    by true e =
-        let w = rw two-hold at (file-writable (T.reads (form 1) two two-accepted)) in
-        let q : _≡_ {A = ℕ} 20250228 20250331 = ap (λ s. s .new-date) (identical-equal (w .0) (w .1 .0) e) in
-        absurd (omega arith)
+    by : (u : Bool) → identical s t ≡ u → identical s t ≡ false
+    by true e = absurd (n (ap (λ x. x .new-date) (identical-equal w v e)))
     by false e = e
+
+-- the periods can be written, and no two of them are identical
+two-written : All (Writable july) (february ∷ march ∷ [])
+two-written = rw two-hold at (file-writable (T.reads (form 1) two two-accepted))
+
+backwards-written : All (Writable july) (march ∷ first-day ∷ [])
+backwards-written = rw backwards-hold at (file-writable (T.reads (form 1) backwards backwards-accepted))
+
+two-differ : identical february march ≡ false
+two-differ = differ february march (two-written .0) (two-written .1 .0) (λ z. omega arith)
+
+february-first : identical february first-day ≡ false
+february-first = differ february first-day (two-written .0) (backwards-written .1 .0) (λ z. omega arith)
+
+march-first : identical march first-day ≡ false
+march-first = differ march first-day (backwards-written .0) (backwards-written .1 .0) (λ z. omega arith)
 
 -- by the rules the one statement is stored, and both of two are
 pub right-nil : Delivers (openedOf room) (form 1) nil (Done 1 0) (journalOf 4 (february ∷ []))
@@ -99,6 +115,23 @@ february-alone n few most =
 two-lines-long : length (journalOf 2 (february ∷ [])) ≡ lineAt 2
 unfolding february-alone
 two-lines-long = journal-length (february-alone 2 (omega arith) (omega arith))
+
+-- THE LAST SEEN, NOT THE LAST HELD: the journal ends with february; of a file the next statement would be stored, and the one behind it does not follow. Expected is what that next one ends with.
+pub right-backwards : Delivers (journalOf 4 (february ∷ [])) (form 1) backwards
+    (Refused (record { number = 22; «record» = 3; «expected_date» = 20250331; «expected_balance» = pos 0 })) (journalOf 4 (february ∷ []))
+unfolding contentOf run verdictOf judgementOf heldAmong lastAmong linesOf sizes sameKey sameBytes february-alone
+right-backwards =
+    let g = february-alone 4 (omega arith) (omega arith) in
+    let l : linesIn (journalOf 4 (february ∷ [])) ≡ 4 = lines-are g in
+    let o : outcomeOf (journalOf 4 (february ∷ [])) (form 1) backwards
+    ≡ refusedWith (record { number = 22; «record» = 3; «expected_date» = 20250331; «expected_balance» = pos 0 }) =
+    outcome-by g (form 1) backwards ∙ rw (backwards-accepted, backwards-hold, l, two-differ, february-first, march-first) in
+    delivers (rw o) (rw o)
+
+-- so one that says what the journal ends with, and is right in all else, does not meet the contract
+pub says-the-last-held : {j′ : List ℕ} → Delivers (journalOf 4 (february ∷ [])) (form 1) backwards
+    (Refused (record { number = 22; «record» = 3; «expected_date» = 20250228; «expected_balance» = pos 0 })) j′ → ⊥
+says-the-last-held g = let z : _≡_ {A = ℕ} 20250331 20250228 = ap (λ a. paperDelivery a .expected-date) (one-deliver right-backwards g .0) in omega arith
 
 -- delivered is not refused
 done-refused : {s h : ℕ} {r : Refusal} → Done s h ≡ Refused r → ⊥

@@ -33,12 +33,19 @@ next-old = "0112345    00010EUR2 0001234567A  280225                            
 abbrev next-new : String
 next-new = "0712345    00010EUR2 0001234567A  310325                                                  0000000000000{                "
 
--- the first period with CR LF for LF; both periods; a 07 alone
+-- the end of a period that begins and ends on the first day
+abbrev first-new : String
+first-new = "0712345    00010EUR2 0001234567A  310125                                                  0000000000000{                "
+
+-- the first period with CR LF for LF; both periods; the second, and behind it one of the first day; a 07 alone
 abbrev pub nil-crlf : List ℕ
 nil-crlf = crlf (nil-old ∷ nil-new ∷ [])
 
 abbrev pub two : List ℕ
 two = lf (nil-old ∷ nil-new ∷ next-old ∷ next-new ∷ [])
+
+abbrev pub backwards : List ℕ
+backwards = lf (next-old ∷ next-new ∷ nil-old ∷ first-new ∷ [])
 
 abbrev pub lone : List ℕ
 lone = bare (nil-new ∷ [])
@@ -61,7 +68,10 @@ february = period 20250131 20250228
 abbrev pub march : Statement
 march = period 20250228 20250331
 
--- one statement, two, none
+abbrev pub first-day : Statement
+first-day = period 20250131 20250131
+
+-- one statement, two, two, none
 pub nil-holds : statementsOf (codingOf (form 1)) (form 1) nil ≡ february ∷ []
 unfolding statementsOf back decodeRecord chunks widthOf sameBytes dateOf dayOf yearOf exists daysIn valueFrom amountOf signOf signIndex isDebit magnitude every
 nil-holds = refl
@@ -70,14 +80,22 @@ pub two-hold : statementsOf (codingOf (form 1)) (form 1) two ≡ february ∷ ma
 unfolding statementsOf back decodeRecord chunks widthOf sameBytes dateOf dayOf yearOf exists daysIn valueFrom amountOf signOf signIndex isDebit magnitude every
 two-hold = refl
 
+pub backwards-hold : statementsOf (codingOf (form 1)) (form 1) backwards ≡ march ∷ first-day ∷ []
+unfolding statementsOf back decodeRecord chunks widthOf sameBytes dateOf dayOf yearOf exists daysIn valueFrom amountOf signOf signIndex isDebit magnitude every
+backwards-hold = refl
+
 pub lone-holds : statementsOf (codingOf (form 0)) (form 0) lone ≡ []
 unfolding statementsOf back decodeRecord chunks widthOf sameBytes
 lone-holds = refl
 
--- the second is accepted too, the last is refused
+-- those of two are accepted too, the last is refused
 pub two-accepted : checkOf (codingOf (form 1)) (form 1) two ≡ counts 2 0 0
 unfolding every sameBytes valueFrom signIndex signOf isDebit magnitude amountOf yearOf daysIn exists dayOf dateOf endOf widthOf chunks sameKey judgeOf scan outOfPlace differs misdated unsummed secondMmo tooLong checkOf unknownCode layoutFor misfit undated decodeRecord
 two-accepted = refl
+
+pub backwards-accepted : checkOf (codingOf (form 1)) (form 1) backwards ≡ counts 2 0 0
+unfolding every sameBytes valueFrom signIndex signOf isDebit magnitude amountOf yearOf daysIn exists dayOf dateOf endOf widthOf chunks sameKey judgeOf scan outOfPlace differs misdated unsummed secondMmo tooLong checkOf unknownCode layoutFor misfit undated decodeRecord
+backwards-accepted = refl
 
 pub lone-refused : checkOf (codingOf (form 0)) (form 0) lone ≡ refused 7 1
 unfolding every sameBytes endOf widthOf chunks judgeOf scan outOfPlace checkOf unknownCode decodeRecord
