@@ -5,11 +5,18 @@
 #include "periods.h"
 #include "say.h"
 
-/* Whether the journal's own last entry of the account ends so; NULL where it has none. */
-static bool ends_so(const struct bytes *journal, const struct entry *entries, const struct entry *last,
-                    const struct expected *expected) {
-    return last != NULL && day_in(last->row + ROW_NEW_DATE) == expected->date &&
-           crownhazel_balance(journal->first, journal->length, (uint64_t)(last - entries) + 1) == expected->balance;
+/* What the journal would hold with what stands before a record of the file, which is accepted. */
+static bool list_before(const struct bytes *journal, const struct input *input, uint32_t record,
+                        struct contents *before) {
+    struct bytes copy = {0};
+    bool good = append(&copy, journal->first, journal->length);
+    if (good) {
+        size_t length = (record - 1) * (CROWNHAZEL_RECORD + (size_t)input->line_end);
+        crownhazel_deliver(copy.first, copy.length, input->line_end, input->kept.first, length);
+        before->count = list_entries(&copy, before->entries);
+    }
+    let_go(&copy);
+    return good;
 }
 
 static enum unfollowed why_not(const struct entry *last, const struct expected *expected) {
@@ -23,8 +30,10 @@ static enum unfollowed why_not(const struct entry *last, const struct expected *
 bool find_expected(const struct bytes *journal, const struct entry *entries, size_t count, const struct input *input,
                    uint64_t refusal, struct expected *expected) {
     const struct bytes *file = &input->kept;
+    struct contents before;
     *expected = (struct expected){0};
-    if (!find_statement(input, crownhazel_record(refusal), &expected->statement)) {
+    if (!find_statement(input, crownhazel_record(refusal), &expected->statement) ||
+        !list_before(journal, input, crownhazel_record(refusal), &before)) {
         return false;
     }
     expected->date = crownhazel_expected_date(journal->first, journal->length, input->line_end, file->first,
@@ -32,24 +41,18 @@ bool find_expected(const struct bytes *journal, const struct entry *entries, siz
     expected->balance = crownhazel_expected_balance(journal->first, journal->length, input->line_end, file->first,
                                                     file->length);
     const struct entry *last = last_of_account(entries, count, &expected->statement);
-    expected->by_file = !ends_so(journal, entries, last, expected);
+    const struct entry *seen = last_of_account(before.entries, before.count, &expected->statement);
+    expected->by_file = seen != NULL && (size_t)(seen - before.entries) >= count;
+    expected->held_until = last == NULL ? 0 : day_in(last->row + ROW_NEW_DATE);
     expected->why = why_not(last, expected);
     return true;
 }
 
-/* What it means, and what to do about it. Where the file itself has what comes before, that is not held: what lies
- * between, delivered alone, would not follow, or would shut it out. */
-static const char *meaning(const struct expected *expected) {
-    switch (expected->why) {
-    case ONE_IS_MISSING:
-        return expected->by_file ? "a statement is missing in the file; ask the bank for one file with all of them"
-                                 : "a statement is missing; ask the bank for what lies between";
-    case OTHER_BALANCE:
-        return expected->by_file
-                   ? "its balance is another; a statement of that day is missing in the file, or one was corrected: "
-                     "ask the bank for one file with all of them"
-                   : "its balance is another; a statement of that day is missing, or one was corrected: ask the bank "
-                     "which";
+/* What it means, and what to do about it. */
+static const char *meaning(enum unfollowed why) {
+    switch (why) {
+    case ONE_IS_MISSING: return "a statement is missing";
+    case OTHER_BALANCE: return "its balance is another; a statement of that day is missing, or one was corrected";
     case CAN_NEVER_FOLLOW:
         return "an older statement or a corrected one, which can never follow; a person has to decide";
     case OUT_OF_ORDER:
@@ -57,6 +60,23 @@ static const char *meaning(const struct expected *expected) {
                "bank which";
     }
     return "";
+}
+
+/* What to ask the bank for. Where the file itself has what comes before, that is not held: what lies between, delivered
+ * alone, would not follow, or would shut it out. So all of them have to come in one file. */
+static void write_request(FILE *out, const struct expected *expected) {
+    char day[DAY_FORM + 1];
+    if (expected->why != ONE_IS_MISSING && expected->why != OTHER_BALANCE) {
+        return;
+    }
+    if (!expected->by_file) {
+        fprintf(out, "; ask the bank %s", expected->why == ONE_IS_MISSING ? "for what lies between" : "which");
+    } else if (expected->held_until == 0) {
+        fprintf(out, "; ask the bank for one right file with all of the account");
+    } else {
+        spell_day(expected->held_until, day);
+        fprintf(out, "; ask the bank for one right file with all of the account from %s on", day);
+    }
 }
 
 /* How the day on which it begins stands to the one expected. */
@@ -77,7 +97,8 @@ void write_expected(FILE *out, const struct expected *expected) {
     spell_number(number_of(expected->balance, decimals_of(row)), "", balance);
     fprintf(out, "account %s: expected %s with %s%s, it begins on %s%s: %s", key, date, balance,
             expected->by_file ? " by what stands before it in the file" : "", begins, beside_that(expected->why),
-            meaning(expected));
+            meaning(expected->why));
+    write_request(out, expected);
 }
 
 /* What was expected, and by which journal. */

@@ -19,6 +19,7 @@ struct expected {
     uint64_t date;          /* the new date of its account's last statement, as the delivery has seen it */
     int64_t balance;        /* that one's new balance */
     bool by_file;           /* that one stands before it in the file, and not in the journal */
+    uint64_t held_until;    /* the last new date that the journal holds of the account; 0 where it holds none */
     enum unfollowed why;
 };
 

@@ -31,6 +31,7 @@ struct night {
     struct contents known;                       /* what the journal held when it was last looked at */
     size_t delivered;                            /* files that the journal holds */
     size_t done, refused;                        /* files */
+    size_t settled;                              /* files that are in the journal, or can never be */
     uint64_t stored, held;                       /* statements */
     struct entry begun[CROWNHAZEL_MOST_ENTRIES]; /* the first entry of each account that began in this run */
     size_t begun_count;
@@ -69,6 +70,7 @@ static void note_stored(struct night *night, size_t at) {
 static void note_delivered(struct night *night, const struct delivered *delivered) {
     size_t stored = crownhazel_stored(delivered->answer);
     night->delivered++;
+    night->settled++;
     night->stored += stored;
     night->held += crownhazel_held(delivered->answer);
     night->known.count = delivered->count;
@@ -145,6 +147,7 @@ static void put_to_refused(struct night *night, struct waiting_file *file, int d
     struct put_away put_away = {delivered, night->journal, moved};
     bool told = take_text(write_move, &put_away, &words);
     night->refused += moved != NULL;
+    night->settled++;
     refused_for(file->path, delivered->answer, told ? (const char *)words.first : "");
     pass_over(night, file, worse(status, STATUS_FILE_REFUSED));
     file->fate = moved == NULL ? PASSED_OVER : MOVED;
@@ -244,17 +247,17 @@ static bool look_again(struct night *night) {
 }
 
 /* A file that could not follow may follow what a later one has brought, and one that had to wait for another can come
- * after it, so there is another round as long as a file is delivered or put away. */
+ * after it, so there is another round as long as a file is delivered or refused for ever. */
 static void run_rounds(struct night *night) {
     size_t before;
     do {
-        before = night->delivered + night->refused;
+        before = night->settled;
         if (look_again(night)) {
             run_round(night);
         } else {
             night->ended = true;
         }
-    } while (!night->ended && night->delivered + night->refused > before);
+    } while (!night->ended && night->settled > before);
 }
 
 static int tell_behind(const struct night *night, const struct waiting_file *file) {
