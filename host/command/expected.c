@@ -11,7 +11,7 @@ static bool list_before(const struct bytes *journal, const struct input *input, 
     struct bytes copy = {0};
     bool good = append(&copy, journal->first, journal->length);
     if (good) {
-        size_t length = (record - 1) * (CROWNHAZEL_RECORD + (size_t)input->line_end);
+        size_t length = (record - 1) * width_of(input);
         crownhazel_deliver(copy.first, copy.length, input->line_end, input->kept.first, length);
         before->count = list_entries(&copy, before->entries);
     }

@@ -116,6 +116,10 @@ bool is_whole(const struct input *input) {
     return input->length == input->kept.length;
 }
 
+size_t width_of(const struct input *input) {
+    return CROWNHAZEL_RECORD + (size_t)input->line_end;
+}
+
 uint64_t earliest_day(const struct input *input) {
     if (!is_whole(input)) {
         return 0;

@@ -36,6 +36,9 @@ bool read_descriptor(const char *name, int descriptor, struct input *input);
 /* Whether the whole file is kept. */
 bool is_whole(const struct input *input);
 
+/* The bytes of a record with its line end. */
+size_t width_of(const struct input *input);
+
 /* The earliest old balance date of its statements, YYYYMMDD; 0 where it has none or is refused. */
 uint64_t earliest_day(const struct input *input);
 

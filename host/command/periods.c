@@ -19,10 +19,6 @@ static bool add(struct periods *periods, const struct entry *entries, size_t cou
     return true;
 }
 
-static size_t width_of(const struct input *input) {
-    return CROWNHAZEL_RECORD + (size_t)input->line_end;
-}
-
 /* There is no reader of records here: a part of the file is delivered to a blank journal in memory, whose entries say
  * what stands in it. */
 static bool take_part(struct bytes *journal, uint64_t line_end, const uint8_t *part, size_t length,

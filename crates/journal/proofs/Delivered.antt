@@ -42,6 +42,11 @@ pub content-canonical : (j : List ℕ) (f : Form) (b : List ℕ) → contentOf j
 unfolding contentOf
 content-canonical j f b = ap (contentBy j) (outcome-canonical j f b)
 
+-- a refused delivery leaves the journal as it was, sound or not
+pub unchanged : (j : List ℕ) (f : Form) (b : List ℕ) {r : Refusal} → outcomeOf j f b ≡ refused r → contentOf j f b ≡ j
+unfolding contentOf
+unchanged j f b e = ap (contentBy j) e
+
 -- a journal's lines
 pub lines-are : {j : List ℕ} {ss : List Statement} (g : Journal j ss) → linesIn j ≡ g .lines
 lines-are g = let l = journal-length g in omega arith
@@ -84,18 +89,13 @@ module _ {j : List ℕ} {H : List Statement} (g : Journal j H) (f : Form) (b : L
           }
       by (G.refused n k) q o = absurd (let z : _≡_ {A = ℕ} 0 1 = cc in omega arith)
 
-  -- a refused one
-  pub unchanged : {r : Refusal} → outcomeOf j f b ≡ refused r → contentOf j f b ≡ j
-  unfolding contentOf
-  unchanged e = ap (contentBy j) e
-
   -- a delivery keeps the journal's length, whatever it answers
   pub content-long : length (contentOf j f b) ≡ length j
   content-long = by (outcomeOf j f b) refl
     where
       by : (o : Outcome) → outcomeOf j f b ≡ o → length (contentOf j f b) ≡ length j
       by (delivered L x y) e = stored e .long
-      by (refused r) e = ap length (unchanged e)
+      by (refused r) e = ap length (unchanged j f b e)
 
 -- so does opening
 pub opened-long : (j : List ℕ) → isLength (length j) ≡ true → length (openedOf j) ≡ length j

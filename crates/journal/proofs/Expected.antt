@@ -35,13 +35,14 @@ use Rattle.journal.specs.declared.Refusal.{Refusal}
 use Rattle.journal.specs.declared.Delivery.{Delivery}
 use Rattle.journal.specs.declared.Verdict.{Verdict}
 use Rattle.journal.specs.declared.Verdict.the-variants.{Hold, Store, Refuse}
-use Rattle.journal.specs.Delivery.{refusal, notNext, verdictBy, verdictOf, Outcome, delivered, refused, proceed, run, linesIn, outcomeBy, outcomeOf, contentBy, contentOf}
+use Rattle.journal.specs.Delivery.{refusal, notNext, verdictBy, verdictOf, Outcome, delivered, refused, proceed, run, linesIn, outcomeBy, outcomeOf, contentOf}
 use Rattle.journal.specs.Answers.{PaperDelivery, paperDelivery, paperOutcome, answerOf}
 use Rattle.journal.specs.Arrivals.{arrivals}
 use Rattle.journal.specs.Expected.{Unfollowed, Expects}
-use Rattle.journal.proofs.Delivered.{file-writable, stored}
+use Rattle.journal.proofs.Delivered.{file-writable, unchanged, stored}
 use Rattle.journal.proofs.Runs.{hold-held, store-new}
 use Rattle.journal.proofs.Series.{all-account, arrived-held, wholly-held}
+use Rattle.journal.proofs.Skipped.{all-there}
 use Rattle.journal.proofs.Paper.{foretells}
 
 -- ---- the last statement of an account
@@ -69,15 +70,10 @@ ends (s ∷ ss) e = from s ss e
           balance-told = x .balance-told;
         }
 
--- what holds of all in a row holds of the last one
-last-too : {A : Type 0} (P : A → Type 0) (xs : List A) (x : A) → All P (xs ++ (x ∷ [])) → P x
-last-too P [] x h = h .0
-last-too P (y ∷ ys) x h = last-too P ys x (h .1)
-
 -- the new date of a statement that can be written is a day that exists
 new-day : (s : Statement) → Writable july s → isDay (s .new-date) ≡ true
 unfolding recordsOf
-new-day s w = closing-day (s .key) (s .new-date) (s .new-balance) (last-too Holds (recordsOfMovements (july .edition) (s .key) (s .movements)) _ (w .ok .1))
+new-day s w = closing-day (s .key) (s .new-date) (s .new-balance) (all-there Holds (recordsOfMovements (july .edition) (s .key) (s .movements)) _ [] (w .ok .1))
 
 -- ---- a run of statements
 
@@ -149,7 +145,7 @@ module _ (n : ℕ) (hs ss : List Statement) (s : Statement) (behind : ℕ) (w : 
           → Told hs (s ∷ ss) behind q
       after d b h k f p =
           let x = ends (ofAccount (s .key) hs) (sym (last-account (s .key) First hs) ∙ k) in
-          let v = last-too (Writable july) (x .earlier) (x .last) (rw (x .row) at (all-account (s .key) hs w)) in
+          let v = all-there (Writable july) (x .earlier) (x .last) [] (rw (x .row) at (all-account (s .key) hs w)) in
           rw p
           (record {
             with-22 = λ _. (
@@ -265,16 +261,10 @@ foretold j f b = paperDelivery (answerOf (outcomeOf j f b))
 pub expects : {j : List ℕ} {f : Form} {b : List ℕ} {r : Delivery} → r ≡ answerOf (outcomeOf j f b) → Expects j f b (paperDelivery r)
 expects {j} {f} {b} e = rw (foretells {j = j} {f = f} {b = b} e .paper) (expects-outcome j f b)
 
-module _ (j : List ℕ) (f : Form) (b : List ℕ) where
-  -- a refused delivery leaves the journal as it was, sound or not
-  untouched : {r : Refusal} → outcomeOf j f b ≡ refused r → contentOf j f b ≡ j
-  unfolding contentOf
-  untouched e = ap (contentBy j) e
-
-  -- one without a refusal was to a sound journal
-  unsound : {L : List Statement} {x y : ℕ} → soundIn j ≡ false → outcomeOf j f b ≡ delivered L x y → ⊥
-  unfolding outcomeOf
-  unsound {L} {x} {y} p e = let q : refused (refusal 21 0) ≡ delivered L x y = rw p at e in let z : _≡_ {A = ℕ} 0 1 = cc in omega arith
+-- one without a refusal was to a sound journal
+unsound : (j : List ℕ) (f : Form) (b : List ℕ) {L : List Statement} {x y : ℕ} → soundIn j ≡ false → outcomeOf j f b ≡ delivered L x y → ⊥
+unfolding outcomeOf
+unsound j f b {L} {x} {y} p e = let q : refused (refusal 21 0) ≡ delivered L x y = rw p at e in let z : _≡_ {A = ℕ} 0 1 = cc in omega arith
 
 -- ASKED AGAIN after the delivery, whatever its answer, the two are the same: a refused one left the journal as it was, and of an accepted file all is held
 pub asked-after : (j : List ℕ) (f : Form) (b : List ℕ)
@@ -283,7 +273,7 @@ asked-after j f b = by (outcomeOf j f b) refl (soundIn j) refl
   where
     by : (o : Outcome) → outcomeOf j f b ≡ o → (t : Bool) → soundIn j ≡ t
         → (foretold (contentOf j f b) f b .expected-date ≡ foretold j f b .expected-date) × (foretold (contentOf j f b) f b .expected-balance ≡ foretold j f b .expected-balance)
-    by (refused r) e t p = let c = untouched j f b e in (rw c, rw c)
+    by (refused r) e t p = let c = unchanged j f b e in (rw c, rw c)
     by (delivered L x y) e true p =
         let q = stored (sound-journal j p) f b e in
         let h = rw (← q .list) at (arrived-held (heldOf j) (statementsOf (codingOf f) f b)) in

@@ -60,7 +60,7 @@ module _ (j : List ℕ) (h : soundIn j ≡ true) where
         stored = λ s n e. let x = stored g f b (answered (outcomeOf j f b) e .1) in (journal-list (x .journal) ∙ x .list, journal-sound (x .journal));
         counted = λ s n e. let x = stored g f b (answered (outcomeOf j f b) e .1) in (x .stores, x .all);
         read = λ s n e. stored g f b (answered (outcomeOf j f b) e .1) .read;
-        unchanged = λ r e. unchanged g f b (turned-away (outcomeOf j f b) e);
+        unchanged = λ r e. unchanged j f b (turned-away (outcomeOf j f b) e);
       }
     where
       turned-away : (o : Outcome) {r : Refusal} → answerOf o ≡ Refused r → o ≡ refused r

@@ -80,7 +80,7 @@ one-more {j} {H} g f b = by (outcomeOf j f b) refl
   where
     by : (o : Outcome) → outcomeOf j f b ≡ o → Journal (contentOf j f b) (H ++ arrivals H (acceptedBy (answerOf o) (statementsOf (codingOf f) f b)))
     by (delivered L x y) e = let s = stored g f b e in rw (← s .list) (s .journal)
-    by (refused r) e = rw (append-nil H, unchanged g f b e) g
+    by (refused r) e = rw (append-nil H, unchanged j f b e) g
 
 -- one event: what it leaves
 one-event : {j : List ℕ} {H : List Statement} → Journal j H → (e : Event) → Journal (afterOne ours j e) (heldAfterOne ours j H e)

@@ -24,6 +24,11 @@ use Rattle.journal.specs.Series.{Event, deliver, Deliver, after, heldAlo
 use Rattle.journal.proofs.Values.{held-append}
 use Rattle.journal.proofs.Series.{held-along, all-account, arrived-held}
 
+-- what holds of all in a row holds of each
+pub all-there : {A : Type 0} (P : A → Type 0) (front : List A) (x : A) (back : List A) → All P (front ++ (x ∷ back)) → P x
+all-there P [] x back h = h .0
+all-there P (y ∷ front) x back h = all-there P front x back (h .1)
+
 -- a series in two: the second part goes on from what the first one held
 along-append : (D : Deliver) (j : List ℕ) (H : List Statement) (es fs : List Event) → heldAlong D j H (es ++ fs) ≡ heldAlong D (after D j es) (heldAlong D j H es) fs
 unfolding after heldAlong
@@ -94,9 +99,5 @@ module _ {O : List ℕ → List ℕ} {D : Deliver} (d : Demand3 O D) (j : List �
       rw (append-assoc es later (deliver f b ∷ [])) (never-stored s h before behind v n o u (later ++ (deliver f b ∷ []))) in
       clash t (rw a at c)
     where
-      there : (P : Statement → Type 0) (front : List Statement) → All P (front ++ (s ∷ back)) → P s
-      there P [] w = w .0
-      there P (z ∷ front) w = there P front (w .1)
-
       among : (P : Statement → Type 0) {ts : List Statement} → ts ≡ front ++ (s ∷ back) → All P ts → P s
-      among P p w = there P front (rw p at w)
+      among P p w = all-there P front s back (rw p at w)
