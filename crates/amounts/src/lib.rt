@@ -1,4 +1,6 @@
 // Amounts of fourteen bytes: thirteen digits, then a sign character.
+#![tactic(auto)]
+
 ghost use Rattle.std.specs.Prelude.{◌≡◌, ◌^◌, ◌<◌, length};
 ghost use Rattle.amounts.specs.Amounts.{sign_index, signed_of, sign_byte, signed_text, is_negative};
 ghost use Rattle.amounts.specs.Answers.{Read, HasAmount, Absolute, Put};

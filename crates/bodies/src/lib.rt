@@ -1,4 +1,6 @@
 // A statement as the journal keeps it: its records as the writer would write them, without line ends. Two statements are compared, and one is copied, record by record.
+#![tactic(auto)]
+
 ghost use Rattle.std.specs.Prelude.{◌≡◌, ◌*◌, ◌≤◌, length, drop, ◌++◌};
 ghost use Rattle.records.specs.July.{record_size, has_debit_zero, no_debit_zero};
 ghost use Rattle.framing.specs.Files.{chunks, pieces_of, plain};

@@ -1,4 +1,6 @@
 // The cash desk: the balance in value of an account at the end of each day of a span, on what the journal promises.
+#![tactic(auto)]
+
 ghost use Rattle.std.specs.Prelude.{◌≡◌, true, ◌∷◌, [], map, ◌-◌, ◌^◌, ◌<◌, length, get_or, pos, nat_abs, ◌+ℤ◌};
 ghost use Rattle.framing.specs.Files.{plain};
 ghost use Rattle.zones.specs.Choice.{pick};

@@ -1,4 +1,6 @@
 // The check run on kept files, and on large ones made here. `stdout` has what the independent implementation answered on the same files.
+#![tactic(auto)]
+
 ghost use Rattle.std.specs.Prelude.{◌≤◌};
 ghost use Rattle.records.specs.July.{most_in_file};
 

@@ -1,4 +1,6 @@
 // The interbank operation codes of annex 2: their numbers, what the bits say, and a movement's mark.
+#![tactic(auto)]
+
 ghost use Rattle.std.specs.Prelude.{◌≡◌};
 ghost use Rattle.codes.specs.Code.{char_value, sign_ticked, mark_for};
 ghost use Rattle.codes.specs.Answers.{Table, NumberIn, MarkIn, Number, Mark, DebitTicked, CreditTicked, Family, Generic};

@@ -1,4 +1,6 @@
 // What the collector's host program calls. Each function answers one number that holds its whole answer, by `specs/Packing.antt`.
+#![tactic(auto)]
+
 ghost use Rattle.collector.specs.Answers.{CheckNumber, OpenNumber, DeliverNumber, ExpectedDate, ExpectedBalance, EntryNumber, UsedNumber, ListedNumber, LengthNumber, EarliestNumber};
 
 use contents::Beginning;

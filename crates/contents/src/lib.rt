@@ -1,4 +1,6 @@
 // What a statement of a file holds, by value: its head, one of its movements, one of their complements. On what day a file begins.
+#![tactic(auto)]
+
 ghost use Rattle.std.specs.Prelude.{◌≡◌, List, ◌∷◌, []};
 ghost use Rattle.grammar.specs.Statements.{Statement};
 ghost use Rattle.grammar.specs.Files.{Reads};

@@ -1,4 +1,6 @@
 // Dates DDMMYY that must exist, as numbers YYYYMMDD: a later day has a larger number. Days as ordinals: 1 January 1980 is 0, 31 December 2079 is 36,524.
+#![tactic(auto)]
+
 ghost use Rattle.std.specs.Prelude.{◌≡◌, suc, ◌+◌, ◌<◌, ◌≤◌, length};
 ghost use Rattle.dates.specs.Days.{year_of, is_leap, days_in, exists as existsOf, day_of, date_text};
 ghost use Rattle.dates.specs.Ordinals.{before_month};

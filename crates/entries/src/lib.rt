@@ -1,4 +1,6 @@
 // The journal's table of contents: an entry written, what it says of its body and of its statement, and the body that it names. Only `put_entry`, `entry_fields` and `put_fields` know an entry's positions.
+#![tactic(auto)]
+
 ghost use Rattle.std.specs.Prelude.{◌≡◌, length};
 ghost use Rattle.dates.specs.Days.{date_of};
 ghost use Rattle.layouts.specs.Zone.{day_in};

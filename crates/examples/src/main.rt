@@ -1,4 +1,6 @@
 // The worked examples of the paper, marked and unmarked, run by the code and held to `stdout`.
+#![tactic(auto)]
+
 use amounts::Amount;
 use dates::Date;
 use libc::STDOUT_FILENO;

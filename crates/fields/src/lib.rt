@@ -1,4 +1,6 @@
 // The fields of one record, by value: the account key, a 04 as a row of a movement table, and what a balance in value counts of a 04.
+#![tactic(auto)]
+
 ghost use Rattle.std.specs.Prelude.{◌≡◌, length};
 ghost use Rattle.zones.specs.Number.{value_of};
 ghost use Rattle.dates.specs.Days.{date_of};

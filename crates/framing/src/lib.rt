@@ -1,4 +1,6 @@
 // How a file is cut into records: rules 1 to 4, over a record's size and the most records that a file may have.
+#![tactic(auto)]
+
 ghost use Rattle.framing.specs.Answers.{Cut, CutLength, WrongEnd};
 
 // The form of a file: what stands after each record, 0 nothing, 1 LF, 2 CR LF.

@@ -1,4 +1,6 @@
 // The account key of a record: equal in all records of a statement, and the account's name in the journal.
+#![tactic(auto)]
+
 #[repr(C)]
 #[derive(Drop)]
 pub struct Key {

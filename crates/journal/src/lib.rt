@@ -1,4 +1,6 @@
 // The journal: a file delivered to it, the newest statement of an account, and what the crates above read of it. A dry run judges every statement and plans what to store; only a plan without a refusal is written.
+#![tactic(auto)]
+
 ghost use Rattle.std.specs.Prelude.{◌≡◌, ◌+◌, ◌*◌, ◌<◌, ◌≤◌, eqb, length, List, ◌∷◌, []};
 ghost use Rattle.zones.specs.Choice.{pick};
 ghost use Rattle.framing.specs.Files.{line_end};

@@ -1,4 +1,6 @@
 // Series of operations run on a journal. `stdout` has what the independent implementation answered on the same series.
+#![tactic(auto)]
+
 ghost use Rattle.std.specs.Prelude.{◌≡◌, ◌<◌, ◌≤◌, length};
 
 use framing::Form;

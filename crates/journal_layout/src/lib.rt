@@ -1,4 +1,6 @@
 // The journal's bytes: what held statements say of another, the test for a sound journal, how much of it is used, opening, and the entries' bodies.
+#![tactic(auto)]
+
 ghost use Rattle.std.specs.Prelude.{◌≡◌, ◌+◌, ◌*◌, ◌<◌, ◌≤◌, length, replicate};
 ghost use Rattle.zones.specs.Copy.{same_bytes};
 ghost use Rattle.records.specs.July.{record_size};

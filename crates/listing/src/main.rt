@@ -1,4 +1,6 @@
 // The listing program: reads a file with LF line ends from standard input and lists its statements and movements.
+#![tactic(auto)]
+
 use contents::Head;
 use fields::Movement;
 use framing::Form;

@@ -1,4 +1,6 @@
 // One 64-bit number as a whole answer, by `specs/Packing.antt`.
+#![tactic(auto)]
+
 ghost use Rattle.std.specs.Prelude.{◌≡◌};
 ghost use Rattle.packing.specs.Packing.{Fits, pack as packOf};
 ghost use Rattle.packing.specs.Answers.{Answered, Refuses};

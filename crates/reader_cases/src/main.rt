@@ -1,4 +1,6 @@
 // The readers by number run on kept files. `stdout` has what the independent implementation answered on the same files.
+#![tactic(auto)]
+
 use contents::{ComplementAnswer, Head, HeadAnswer, MovementAnswer};
 use fields::Movement;
 use framing::Form;

@@ -1,4 +1,6 @@
 // The statements of a file in their places, and the movements of a statement in theirs. A statement is a part of the file, never a copy.
+#![tactic(auto)]
+
 ghost use Rattle.std.specs.Prelude.{◌≡◌, ◌∷◌, [], ◌≤◌, length, drop};
 ghost use Rattle.zones.specs.Copy.{same_bytes};
 ghost use Rattle.layouts.specs.Zone.{part};

@@ -1,4 +1,6 @@
 // One record of a file: its kind, whether it fits its layout, and the values that the rules look at. A record is looked at where it stands, never copied.
+#![tactic(auto)]
+
 ghost use Rattle.std.specs.Prelude.{◌≡◌, ◌∷◌, [], length};
 ghost use Rattle.zones.specs.Class.{digit, blank, permitted, alnum, all};
 ghost use Rattle.std.proofs.Math.Bool.Bool.{true};

@@ -1,4 +1,6 @@
 // The check of a file in one pass over its records.
+#![tactic(auto)]
+
 ghost use Rattle.std.specs.Prelude.{◌≡◌, ◌≤◌, max, length, take, nat_abs};
 ghost use Rattle.zones.specs.Choice.{pick};
 ghost use Rattle.amounts.specs.Amounts.{most_amount};

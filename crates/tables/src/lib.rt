@@ -1,4 +1,6 @@
 // The movements of a statement in a lent table: few thin functions over a covered one that reads a single 04.
+#![tactic(auto)]
+
 ghost use Rattle.std.specs.Prelude.{◌≡◌, ◌≤◌, length};
 ghost use Rattle.tables.specs.Tables.{laid};
 ghost use Rattle.tables.specs.Steps.{row_step_of, rows_from, no_rows, between, Planned};

@@ -1,4 +1,6 @@
 // The writer of one statement: head, rows and complements into a lent output. Thin functions over covered ones that take one row by value.
+#![tactic(auto)]
+
 ghost use Rattle.std.specs.Prelude.{◌≡◌, ◌*◌, length};
 ghost use Rattle.std.proofs.Math.Bool.Bool.{true, false};
 ghost use Rattle.framing.specs.Files.{chunks};

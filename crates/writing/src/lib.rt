@@ -1,4 +1,6 @@
 // One record written: which values a record can hold, and the bytes they are written as.
+#![tactic(auto)]
+
 ghost use Rattle.std.specs.Prelude.{◌≡◌, true, length};
 ghost use Rattle.zones.specs.Class.{in_class};
 ghost use Rattle.zones.specs.Class.Class.{digit, flag};

@@ -1,4 +1,6 @@
 // Zones of bytes: what class they are of, whether two are the same, copies, and decimal numbers. Every function takes every slice.
+#![tactic(auto)]
+
 ghost use Rattle.std.specs.Prelude.{◌≡◌, ◌||◌, ◌%◌, min};
 ghost use Rattle.zones.specs.Class.{between, every};
 ghost use Rattle.zones.specs.Class.Class.{digit, letter, alnum, blank, permitted, flag};
