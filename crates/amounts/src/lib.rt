@@ -5,7 +5,7 @@ ghost use Rattle.std.specs.Prelude.{◌≡◌, ◌^◌, ◌<◌, length};
 ghost use Rattle.amounts.specs.Amounts.{sign_index, signed_of, sign_byte, signed_text, is_negative};
 ghost use Rattle.amounts.specs.Answers.{Read, HasAmount, Absolute, Put};
 
-#[derive(Drop)]
+#[derive(Clone, Copy)]
 pub enum Amount {
     Value(i64),
     NoAmount,

@@ -28,7 +28,7 @@ use records::RECORD;
 const MOST_DAYS: u32 = 400;
 
 // How many days were filled; or a refusal's number and record.
-#[derive(Drop)]
+#[derive(Clone, Copy)]
 pub enum Outcome {
     Filled { days: u64 },
     Refused { number: u64, record: u64 },

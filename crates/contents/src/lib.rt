@@ -19,7 +19,7 @@ use statements::Checked;
 
 // The account key, both dates and both balances.
 #[repr(C)]
-#[derive(Drop)]
+#[derive(Clone, Copy)]
 pub struct Head {
     pub key: Key,
     pub old_date: u32,
@@ -29,7 +29,7 @@ pub struct Head {
 }
 
 // A head with its number of movements; or, with a refusal's number and record, zeros.
-#[derive(Drop)]
+#[derive(Clone, Copy)]
 pub struct HeadAnswer {
     pub number: u64,
     pub record: u64,
@@ -38,7 +38,7 @@ pub struct HeadAnswer {
 }
 
 // A movement; or, with a refusal's number and record, zeros.
-#[derive(Drop)]
+#[derive(Clone, Copy)]
 pub struct MovementAnswer {
     pub number: u64,
     pub record: u64,
@@ -46,7 +46,7 @@ pub struct MovementAnswer {
 }
 
 // A complement's bytes 46-118; or, with a refusal's number and record, zeros.
-#[derive(Drop)]
+#[derive(Clone, Copy)]
 pub struct ComplementAnswer {
     pub number: u64,
     pub record: u64,
@@ -54,7 +54,7 @@ pub struct ComplementAnswer {
 }
 
 // The earliest old balance date of a file's statements, 0 where it has none, or the number and the record of a refusal.
-#[derive(Drop)]
+#[derive(Clone, Copy)]
 pub enum Beginning {
     On { day: u32 },
     Refused { number: u64, record: u64 },

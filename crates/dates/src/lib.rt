@@ -12,7 +12,7 @@ pub const ALL_DAYS: u32 = 36525;
 // 31 December 2079: the years end there.
 pub const LAST_DAY: u64 = 20791231;
 
-#[derive(Drop)]
+#[derive(Clone, Copy)]
 pub enum Date {
     Day(u32),
     NoDay,

@@ -24,7 +24,7 @@ pub const CONTENTS: usize = MOST_ENTRIES * ENTRY;
 pub const ROW: usize = 41;
 
 // Whether an entry is used, its body's first line, and its number of records.
-#[derive(Drop)]
+#[derive(Clone, Copy)]
 pub struct Entry {
     pub used: bool,
     pub first: usize,

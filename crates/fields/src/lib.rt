@@ -16,7 +16,7 @@ use records::RECORD;
 
 // A movement: what its 04 says, and the number of its complements.
 #[repr(C)]
-#[derive(Drop)]
+#[derive(Clone, Copy)]
 pub struct Movement {
     pub internal: [u8; 4],
     pub code: [u8; 2],
@@ -33,7 +33,7 @@ pub struct Movement {
 }
 
 // What a balance in value counts of a movement: its value date and its amount.
-#[derive(Drop)]
+#[derive(Clone, Copy)]
 pub struct Valued {
     pub value: u32,
     pub amount: i64,

@@ -5,7 +5,7 @@ ghost use Rattle.framing.specs.Answers.{Cut, CutLength, WrongEnd};
 
 // The form of a file: what stands after each record, 0 nothing, 1 LF, 2 CR LF.
 #[repr(C)]
-#[derive(Drop)]
+#[derive(Clone, Copy)]
 pub struct Form {
     pub line_end: u64,
 }
@@ -14,7 +14,7 @@ pub struct Form {
 pub const PLAIN: Form = Form { line_end: 0 };
 
 // The width of a record with its line end, and the number of records; or the number of a refusal.
-#[derive(Drop)]
+#[derive(Clone, Copy)]
 pub enum Frame {
     Records { width: usize, count: usize },
     Refused(u64),

@@ -1,5 +1,5 @@
 -- Any machine's `scan` answers by the rule: the first record to which a number applies, and there the lowest. No second answer does.
-use mathlib.Core.Path.{◌≡◌, refl, sym, ◌∙◌, ap, ap₂}
+use mathlib.Core.Path.{◌≡◌, refl, sym, ◌∙◌, ap, ap₂, subst}
 use mathlib.Core.Bool.{Bool, true, false, not, ◌&&◌, ◌||◌}
 use mathlib.Core.List.{List, [], ◌∷◌}
 use Prim.Native.Nat.{ℕ, suc, ◌+◌, ◌-◌, ◌<◌, ◌≤◌}
@@ -35,6 +35,10 @@ pub record Lowest (k : ℕ) (xs : List Rule) : Type 0 where
   pub here : is_ruled k xs ≡ true
   pub lowest : (j : ℕ) → j < k → is_ruled j xs ≡ false
 
+-- a rule that does not apply changes nothing
+past : (x : Rule) (k : ℕ) (xs : List Rule) → x.applies ≡ false → is_ruled k xs ≡ true → is_ruled k (x ∷ xs) ≡ true
+past x k xs p h = rw p h
+
 -- the first number is the lowest, where there is one
 low : (m : ℕ) (xs : List Rule) → Rises m xs → (first_of xs ≡ 0 → ⊥) → Lowest (first_of xs) xs
 low m [] g f = absurd (f refl)
@@ -48,7 +52,8 @@ low m (x ∷ xs) g f = go x.applies refl (λ q. low x.number xs g.1 q)
         }
     go false p ih =
         let l = ih (λ z. f (rw p z)) in
-        record { here = rw p l.here; lowest = λ j h. rw p (l.lowest j (rw p at h)) }
+        let e : first_of (x ∷ xs) ≡ first_of xs = rw p refl in
+        record { here = subst (λ k. is_ruled k (x ∷ xs) ≡ true) (sym e) (past x (first_of xs) xs p l.here); lowest = λ j h. rw p (l.lowest j (rw p at h)) }
 
 module _ (M : Machine) (d : M.Record) where
   -- number k applies to record i of rs, read from the state s on

@@ -27,7 +27,7 @@ use statements::Checked;
 pub const KEY: usize = 25;
 
 // Why a delivery is refused, and at which record. With 22 what was expected: the new date and the new balance of the account's last statement; else both are 0.
-#[derive(Drop)]
+#[derive(Clone, Copy)]
 pub struct Refusal {
     pub number: u64,
     pub record: u64,
@@ -36,14 +36,14 @@ pub struct Refusal {
 }
 
 // How many statements were stored, and how many were held; or why it is refused.
-#[derive(Drop)]
+#[derive(Clone, Copy)]
 pub enum Delivery {
     Done { stored: u64, held: u64 },
     Refused(Refusal),
 }
 
 // What becomes of a statement: it is held, or to be stored, or the delivery is refused for it.
-#[derive(Drop)]
+#[derive(Clone, Copy)]
 pub enum Verdict {
     Hold,
     Store,
@@ -51,7 +51,7 @@ pub enum Verdict {
 }
 
 // Where the newest statement of an account stands: in the journal, without line ends, or in the file, with its line-end number.
-#[derive(Drop)]
+#[derive(Clone, Copy)]
 pub enum Found {
     InJournal {
         first: usize,
@@ -69,14 +69,14 @@ pub enum Found {
 }
 
 // How many statements a sound journal holds; or a refusal's number and record.
-#[derive(Drop)]
+#[derive(Clone, Copy)]
 pub enum Holding {
     Statements { count: u64 },
     Refused { number: u64, record: u64 },
 }
 
 // The statements of a file that a delivery stores: where each begins and ends, and into which entry and from which line on. With its answer.
-#[derive(Drop)]
+#[derive(Clone, Copy)]
 pub struct Plan {
     pub count: usize,
     pub places: [u32; MOST_ENTRIES],

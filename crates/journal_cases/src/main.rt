@@ -10,7 +10,7 @@ use libc::STDOUT_FILENO;
 use readers::Place;
 
 // An operation of a series: its letter, its two numbers, and where its payload begins and ends.
-#[derive(Drop)]
+#[derive(Clone, Copy)]
 struct Operation {
     letter: u8,
     a: u64,

@@ -21,7 +21,7 @@ const MOST_LINES: usize = 100000;
 const MOST_BYTES: usize = CONTENTS + RECORD * MOST_LINES;
 
 // A statement beside the held ones: held itself, the first of its account, or after another, whose new date and new balance these are.
-#[derive(Drop)]
+#[derive(Clone, Copy)]
 pub enum Judgement {
     Held,
     First,
@@ -29,20 +29,20 @@ pub enum Judgement {
 }
 
 // The first unused entry, from 0, and the first line behind the bodies.
-#[derive(Drop)]
+#[derive(Clone, Copy)]
 pub struct Free {
     pub entry: usize,
     pub line: usize,
 }
 
 // The statements held, the body lines that they take, and the body lines in all; or a refusal.
-#[derive(Drop)]
+#[derive(Clone, Copy)]
 pub enum Usage {
     Counted { entries: u64, used: u64, lines: u64 },
     Refused { number: u64, record: u64 },
 }
 
-#[derive(Drop)]
+#[derive(Clone, Copy)]
 pub enum Opening {
     Opened,
     Refused { number: u64, record: u64 },

@@ -14,14 +14,14 @@ use records::RECORD;
 use statements::Checked;
 
 // The first byte and the length of a statement in its file, or the number and the record of a refusal.
-#[derive(Drop)]
+#[derive(Clone, Copy)]
 pub enum Place {
     At { first: usize, len: usize },
     Refused { number: u64, record: u64 },
 }
 
 // The movement at a place: whether a 04 stands there, the number of its 05, and the place after them.
-#[derive(Drop)]
+#[derive(Clone, Copy)]
 pub struct Step {
     pub found: bool,
     pub complements: u64,

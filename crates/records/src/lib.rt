@@ -31,7 +31,7 @@ pub const MOST_IN_STATEMENT: u64 = 9999;
 pub const TEXT: usize = 73;
 
 // What the check needs to know of a record. The kind of an unknown code is 7, as the definitions have it.
-#[derive(Drop)]
+#[derive(Clone, Copy)]
 pub struct Look {
     pub unknown: bool,
     pub kind: u8,

@@ -17,7 +17,7 @@ use framing::{Form, Frame};
 use records::{Look, MOST_IN_FILE, RECORD, rules};
 
 // What a file holds, or the number and the record of its refusal.
-#[derive(Drop)]
+#[derive(Clone, Copy)]
 pub enum Checked {
     Accepted {
         statements: u64,
@@ -31,7 +31,7 @@ pub enum Checked {
 }
 
 // Running totals: counts, and the balance of the open statement. Each record takes them and hands them back.
-#[derive(Drop)]
+#[derive(Clone, Copy)]
 struct Totals {
     statements: u64,
     movements: u64,
@@ -90,7 +90,7 @@ impl Totals {
 
 // What is kept from record to record: the places of the open 01 and of the last 04 in the file, and numbers.
 // size: the records of the open statement, 0 where none is open. movement: 0 none is open, 1 one without an MMO, 2 one with.
-#[derive(Drop)]
+#[derive(Clone, Copy)]
 struct Progress {
     opening: usize,
     mark: usize,

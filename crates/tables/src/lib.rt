@@ -13,7 +13,7 @@ use records::RECORD;
 
 // The number of movements, which is that of the rows filled; or, with a refusal's number and record, 0.
 #[repr(C)]
-#[derive(Drop)]
+#[derive(Clone, Copy)]
 pub struct TableAnswer {
     pub number: u64,
     pub record: u64,
@@ -21,14 +21,14 @@ pub struct TableAnswer {
 }
 
 // A movement's row, and the place after its last 05.
-#[derive(Drop)]
+#[derive(Clone, Copy)]
 struct RowStep {
     row: Movement,
     next: usize,
 }
 
 // The answer, the statement's part of the file, the place of its first 04 in the part, and how many rows to fill: none on refusal.
-#[derive(Drop)]
+#[derive(Clone, Copy)]
 struct Plan {
     answer: TableAnswer,
     first: usize,

@@ -22,7 +22,7 @@ const MOST_BALANCE: u64 = 1000000000000000000;
 
 // The number of bytes written; or, with a refusal's number, 0.
 #[repr(C)]
-#[derive(Drop)]
+#[derive(Clone, Copy)]
 pub struct WriteAnswer {
     pub number: u64,
     pub record: u64,
@@ -30,7 +30,7 @@ pub struct WriteAnswer {
 }
 
 // What the rows tested so far give: whether all fits, the number of records, the balance, and the place in the complements.
-#[derive(Drop)]
+#[derive(Clone, Copy)]
 struct Tally {
     fits: bool,
     records: u64,
@@ -39,7 +39,7 @@ struct Tally {
 }
 
 // Where the next row stands in the output, and its texts in the complements.
-#[derive(Drop)]
+#[derive(Clone, Copy)]
 struct Spot {
     at: usize,
     from: usize,
