@@ -1,0 +1,7 @@
+use Rattle.packing.specs.Packing.{answered_of}
+use borrow.Author.Rules.{rules}
+use Rattle.packing.proofs.answered.Goals as goal
+
+pub returns : goal.returns
+unfolding answered_of
+returns c = record { answer = c.pack.ensures }
