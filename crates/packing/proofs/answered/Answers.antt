@@ -1,5 +1,4 @@
 use Rattle.packing.specs.Packing.{answered_of}
-use borrow.Author.Rules.{rules}
 use Rattle.packing.proofs.answered.Goals as goal
 
 pub returns : goal.returns

@@ -1,11 +1,6 @@
-
 use Rattle.packing.proofs.refused.Goals as goal
-
 -- The record goes into a and the number into b: said here, so that a swap of the two is refused at this line.
 use Rattle.packing.specs.Packing.{refused_of}
-use borrow.Author.Rules.{rules}
-use Rattle.packing.proofs.refused.Statement.{statement}
-use Rattle.packing.proofs.refused.Tie as tie
 
 pub returns : goal.returns
 unfolding refused_of

@@ -1,6 +1,4 @@
-use mathlib.Core.Path.{◌≡◌, refl, ◌∙◌}
-use borrow.Author.Rules.{rules}
-use Rattle.readers.specs.Places.{ends_after}
+use mathlib.Core.Path.{◌∙◌}
 use Rattle.readers.proofs.Walk.{ends_step, ends_none}
 use Rattle.readers.proofs.after_statements.Goals as goal
 

@@ -1,7 +1,5 @@
-use mathlib.Core.Path.{◌≡◌, refl, ◌∙◌}
-use borrow.Author.Rules.{rules}
+use mathlib.Core.Path.{◌≡◌}
 use Rattle.readers.specs.Places.{ends_after}
-use Rattle.readers.proofs.Walk.{ends_step, ends_none}
 use Rattle.readers.proofs.after_statements.Given as goal
 
 abbrev pub invariant-loop-left : goal.invariant-loop-left

@@ -1,10 +1,6 @@
 use mathlib.Core.Path.{refl}
 use native.Mathlib.Omega.{arith}
-use lib.ListN.{length, drop}
-use borrow.Author.Rules.{rules}
-use Rattle.framing.specs.Files.{chunks}
-use Rattle.readers.specs.Places.{end_in}
-use Rattle.readers.proofs.Walk.{Going, within, piece_length, stops, again, ends}
+use Rattle.readers.proofs.Walk.{within, piece_length, stops, again, ends}
 use Rattle.readers.proofs.closing_end.Goals as goal
 
 pub loop-left-init : goal.loop-left-init

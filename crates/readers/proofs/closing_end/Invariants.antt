@@ -1,10 +1,7 @@
-use mathlib.Core.Path.{refl}
-use native.Mathlib.Omega.{arith}
 use lib.ListN.{length, drop}
-use borrow.Author.Rules.{rules}
 use Rattle.framing.specs.Files.{chunks}
 use Rattle.readers.specs.Places.{end_in}
-use Rattle.readers.proofs.Walk.{Going, within, piece_length, stops, again, ends}
+use Rattle.readers.proofs.Walk.{Going}
 use Rattle.readers.proofs.closing_end.Given as goal
 
 abbrev pub invariant-loop-left : goal.invariant-loop-left

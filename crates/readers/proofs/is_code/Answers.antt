@@ -1,5 +1,4 @@
 use Rattle.readers.proofs.Walk.{two_bytes}
-use borrow.Author.Rules.{rules}
 use Rattle.readers.proofs.is_code.Goals as goal
 
 pub returns : goal.returns

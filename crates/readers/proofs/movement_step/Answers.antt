@@ -1,7 +1,5 @@
 use native.Mathlib.Omega.{arith}
-use borrow.Author.Tests.{not-true, not-false}
 use Rattle.readers.proofs.Over.{step_unknown, step_short, step_past, step_within, step_other, step_there, step_fits}
-use borrow.Author.Rules.{rules}
 use Rattle.readers.proofs.movement_step.Goals as goal
 
 pub returns-then-form-gt2 : goal.returns-then-form-gt2

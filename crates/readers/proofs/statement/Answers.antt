@@ -1,7 +1,6 @@
 use mathlib.Core.Path.{sym, ◌∙◌}
 use native.Mathlib.Omega.{arith}
 use Rattle.readers.proofs.Placed.{part_cut, part_inside, part_none}
-use borrow.Author.Rules.{rules}
 use Rattle.readers.proofs.statement.Goals as goal
 
 pub overflow_add-end : goal.overflow_add-end

@@ -1,5 +1,4 @@
 use Rattle.readers.proofs.Walk.{end_unknown, end_past, end_walked, fits}
-use borrow.Author.Rules.{rules}
 use Rattle.readers.proofs.statement_end.Goals as goal
 
 pub returns-then-form-gt2 : goal.returns-then-form-gt2

@@ -1,7 +1,6 @@
 use mathlib.Core.Path.{sym, ◌∙◌}
 use native.Mathlib.Omega.{arith}
 use Rattle.readers.proofs.Placed.{none, over, stood, there, not_read}
-use borrow.Author.Rules.{rules}
 use Rattle.readers.proofs.statement_place.Goals as goal
 
 pub returns-then-k-eq0 : goal.returns-then-k-eq0

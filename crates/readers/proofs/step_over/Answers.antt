@@ -1,13 +1,8 @@
 use mathlib.Core.Path.{refl}
 use native.Mathlib.Nat.{zero-add}
 use native.Mathlib.Omega.{arith}
-use lib.ListN.{drop}
-use borrow.Author.Rules.{rules}
-use borrow.Author.Tests.{not-true, not-false}
-use Rattle.framing.specs.Files.{chunks}
-use Rattle.readers.specs.Steps.{step_over}
 use Rattle.readers.proofs.Walk.{within, piece_length}
-use Rattle.readers.proofs.Over.{Over, over_stops, over_again, over_ends}
+use Rattle.readers.proofs.Over.{over_stops, over_again, over_ends}
 use Rattle.readers.proofs.step_over.Goals as goal
 
 pub loop-left-init : goal.loop-left-init

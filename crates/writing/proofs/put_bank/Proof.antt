@@ -1,0 +1,102 @@
+use Rattle.zones.proofs.Called.{put_whole}
+use Rattle.writing.proofs.Filled.{bank_put}
+use mathlib.Core.List.{[], ◌∷◌}
+use mathlib.Core.Path.{◌≡◌, refl}
+use lib.ListN.{replicate}
+use borrow.Author.Rules.{rules}
+use Rattle.writing.proofs.put_bank.Statement.{statement}
+use Rattle.writing.proofs.put_bank.Tie as tie
+
+sub-put : tie.Need-overflow-sub-put
+sub-put c = search rules
+
+part-put-start : tie.Need-slice-bounds-put-start
+part-put-start c = search rules
+
+part-put-end : tie.Need-slice-bounds-put-end
+part-put-end c = search rules
+
+slice-aggregate-put : tie.Need-slice-aggregate-put
+slice-aggregate-put c = search rules
+
+put-requires : tie.Need-put-requires
+put-requires c κs = search rules
+
+sub-put-2 : tie.Need-overflow-sub-put-2
+sub-put-2 c = search rules
+
+part-put-start-2 : tie.Need-slice-bounds-put-start-2
+part-put-start-2 c = search rules
+
+part-put-end-2 : tie.Need-slice-bounds-put-end-2
+part-put-end-2 c = search rules
+
+put-requires-2 : tie.Need-put-requires-2
+put-requires-2 c κs = search rules
+
+sub-put-3 : tie.Need-overflow-sub-put-3
+sub-put-3 c = search rules
+
+part-put-start-3 : tie.Need-slice-bounds-put-start-3
+part-put-start-3 c = search rules
+
+part-put-end-3 : tie.Need-slice-bounds-put-end-3
+part-put-end-3 c = search rules
+
+slice-aggregate-put-2 : tie.Need-slice-aggregate-put-2
+slice-aggregate-put-2 c = search rules
+
+put-requires-3 : tie.Need-put-requires-3
+put-requires-3 c κs = search rules
+
+sub-put-4 : tie.Need-overflow-sub-put-4
+sub-put-4 c = search rules
+
+part-put-start-4 : tie.Need-slice-bounds-put-start-4
+part-put-start-4 c = search rules
+
+part-put-end-4 : tie.Need-slice-bounds-put-end-4
+part-put-end-4 c = search rules
+
+put-requires-4 : tie.Need-put-requires-4
+put-requires-4 c κs = search rules
+
+same_length : tie.Need-same-length
+same_length c = search rules
+
+coded : (c : tie.After-put) → c.put.new.0 ≡ 48 ∷ c.before.before.before.before.args.code ∷ []
+coded c = put_whole c.put.ensures (search rules)
+
+returns : tie.Need-returns
+returns c =
+    let s = c.before.before.before.before.before.before.before.before.before.before.before.before.before.before.before.before.before.before.before.before.before.before.before.before.before in
+    bank_put s.args.code s.args.t3 s.args.t4 (replicate 2 32) 0 (search rules) (search rules) refl s.args.out.now s.requires
+    (coded c.before.before.before.before.before.before.before.before.before.before.before.before.before.before.before.before.before.before.before.before.before)
+    (put_whole c.before.before.before.before.before.before.before.before.before.before.before.before.before.before.put2.ensures (search rules))
+    (put_whole c.before.before.before.before.before.before.before.before.before.put3.ensures (search rules))
+    (put_whole c.before.before.put4.ensures (search rules))
+
+pub put_bank_spec : {M : Type 1} → statement M
+put_bank_spec =
+    tie.close
+    (tie.spec
+    sub-put
+    part-put-start
+    part-put-end
+    slice-aggregate-put
+    put-requires
+    sub-put-2
+    part-put-start-2
+    part-put-end-2
+    put-requires-2
+    sub-put-3
+    part-put-start-3
+    part-put-end-3
+    slice-aggregate-put-2
+    put-requires-3
+    sub-put-4
+    part-put-start-4
+    part-put-end-4
+    put-requires-4
+    same_length
+    returns)
