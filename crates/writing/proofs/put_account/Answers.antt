@@ -1,0 +1,19 @@
+use Rattle.zones.proofs.Called.{put_whole}
+use Rattle.writing.proofs.Filled.{account_put, date_put}
+use mathlib.Core.Path.{◌≡◌, refl}
+use lib.ListN.{replicate}
+use borrow.Author.Rules.{rules}
+use Rattle.writing.proofs.put_account.Goals as goal
+use Rattle.writing.proofs.put_account.Goals.{After-slice_known-6-1}
+
+named : (c : After-slice_known-6-1) → c.put.new.dst ≡ c.args.key.currency
+named c = put_whole c.put.ensures (search rules)
+
+pub returns : goal.returns
+returns c =
+    account_put 0 c.args.key (replicate 4 32) c.args.operation c.args.date (search rules) refl (search rules) c.args.out.now c.requires.0
+    (named c)
+    (put_whole c.put-2.ensures (search rules))
+    (put_whole c.put-3.ensures (search rules))
+    (put_whole c.put-4.ensures (search rules))
+    (date_put c.put-5.ensures (search rules) c.requires.1)
