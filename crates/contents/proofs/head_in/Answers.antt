@@ -1,0 +1,13 @@
+use native.Mathlib.Omega.{arith}
+use Rattle.contents.proofs.Heading.{last_inside, headed}
+use Rattle.contents.proofs.Moving.{single_end}
+use Rattle.contents.proofs.head_in.Goals as goal
+
+pub overflow_add-width : goal.overflow_add-width
+overflow_add-width c = omega (arith, single_end c.requires)
+
+pub overflow_sub-last : goal.overflow_sub-last
+overflow_sub-last c = last_inside c.requires.reads
+
+pub returns : goal.returns
+returns c s r = headed r (rw (← c.record_at.ensures.answer, ← c.record_at-2.ensures.answer) c.head_at.ensures) c.movements_in.ensures.answer
