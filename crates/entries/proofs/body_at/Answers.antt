@@ -1,0 +1,24 @@
+use native.Mathlib.Omega.{arith}
+use Rattle.entries.proofs.Found.{entry_small, none_unused, none_short, body_there}
+use Rattle.entries.proofs.body_at.Goals as goal
+
+pub returns-then-not-x : goal.returns-then-not-x
+returns-then-not-x c = record { answer = none_unused c.args.journal.now c.args.e c.entry_at-x.ensures.answer c.if-not-x.true }
+
+pub overflow_mul-a : goal.overflow_mul-a
+overflow_mul-a c = let s = entry_small c.entry_at-x.ensures in omega (arith, s.first)
+
+pub overflow_add-a : goal.overflow_add-a
+overflow_add-a c = let s = entry_small c.entry_at-x.ensures in omega (arith, s.first)
+
+pub overflow_mul-z : goal.overflow_mul-z
+overflow_mul-z c = let s = entry_small c.entry_at-x.ensures in omega (arith, s.records)
+
+pub overflow_add-z : goal.overflow_add-z
+overflow_add-z c = let s = entry_small c.entry_at-x.ensures in omega (arith, s.first, s.records)
+
+pub returns-then-journal-z : goal.returns-then-journal-z
+returns-then-journal-z c = record { answer = none_short c.args.journal.now c.args.e c.entry_at-x.ensures.answer c.if-not-x.false c.if-journal-z.true }
+
+pub returns : goal.returns
+returns c = record { answer = body_there c.args.journal.now c.args.e c.entry_at-x.ensures.answer c.if-not-x.false c.if-journal-z.false }
