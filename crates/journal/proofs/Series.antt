@@ -90,7 +90,7 @@ one_event g (deliver f b) = rw (one_more g f b) at (then_journal g f b)
 pub series : {j : List ℕ} {H : List Statement} → Journal j H → (es : List Event) → Journal (after ours j es) (held_along ours j H es)
 unfolding after held_along
 series g [] = g
-series g (e ∷ es) = series (one_event g e) es
+series {j = j} {H = H} g (e ∷ es) = series {j = after_one ours j e} {H = held_after_one ours j H e} (one_event g e) es
 
 -- an event keeps the journal's length
 event_long : {j : List ℕ} {H : List Statement} → Journal j H → (e : Event) → length (after_one ours j e) ≡ length j
@@ -100,7 +100,7 @@ event_long g (deliver f b) = content_long g f b
 series_long : {j : List ℕ} {H : List Statement} → Journal j H → (es : List Event) → length (after ours j es) ≡ length j
 unfolding after
 series_long g [] = refl
-series_long g (e ∷ es) = series_long (one_event g e) es ∙ event_long g e
+series_long {j = j} {H = H} g (e ∷ es) = series_long {j = after_one ours j e} {H = held_after_one ours j H e} (one_event g e) es ∙ event_long g e
 
 -- ---- the sum of an account's movements
 

@@ -21,7 +21,7 @@ use Rattle.journal_layout.proofs.Chain.{account_append, InTurn, chain_in_turn}
 use Rattle.journal_layout.proofs.Accounts.{all_account}
 use Rattle.journal.specs.declared.Delivery.TheVariants.{Done}
 use Rattle.journal.specs.Arrivals.{arrivals}
-use Rattle.journal.specs.Series.{Event, deliver, Deliver, after, held_along, held_after, accepted, Demand3}
+use Rattle.journal.specs.Series.{Event, deliver, Deliver, after, after_one, held_after_one, held_along, held_after, accepted, Demand3}
 use Rattle.journal.proofs.Values.{held_append}
 use Rattle.journal.proofs.Series.{held_along_lem, arrived_held}
 
@@ -34,7 +34,7 @@ all_there P (y ∷ front) x back h = all_there P front x back h.1
 along_append : (D : Deliver) (j : List ℕ) (H : List Statement) (es fs : List Event) → held_along D j H (es ++ fs) ≡ held_along D (after D j es) (held_along D j H es) fs
 unfolding after held_along
 along_append D j H [] fs = refl
-along_append D j H (e ∷ es) fs = along_append D _ _ es fs
+along_append D j H (e ∷ es) fs = along_append D (after_one D j e) (held_after_one D j H e) es fs
 
 -- in a row in turn those behind a statement begin at its new date or later
 behind_turn : (before : List Statement) (h : Statement) (behind more : List Statement) → InTurn ((before ++ (h ∷ behind)) ++ more) → All (λ t. h.new_date ≤ t.old_date) more

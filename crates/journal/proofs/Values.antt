@@ -72,7 +72,7 @@ module _ {f : Form} {x : List ℕ} {t : Statement} (r : Reads (coding_of f) f x 
   last_value last [] [] p = refl
   last_value last [] (s ∷ P) p = absurd p
   last_value last (h ∷ hs) [] p = absurd p
-  last_value last (h ∷ hs) (s ∷ P) p = ap (λ l. last_in l f hs x) (later_value r last p.0) ∙ last_value _ hs P p.1
+  last_value last (h ∷ hs) (s ∷ P) p = ap (λ l. last_in l f hs x) (later_value r last p.0) ∙ last_value (pick (same_key s.key t.key) (After s.new_date s.new_balance) last) hs P p.1
 
   -- behind the held statements stand the planned ones
   all_value : {j : List ℕ} {H : List Statement} (hs : List (List ℕ)) (P : List Statement) → Holding j H → Reading f hs P
