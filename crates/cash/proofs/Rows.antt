@@ -45,6 +45,10 @@ total_split p q r h (m ∷ ms) = by (p m) (q m) (r m) (h m) (total_split p q r h
     by true true false earlier e = rw e (sym (+ℤ_assoc m.amount (total (chosen q ms)) (total (chosen r ms))))
     by true false true today e = rw e (swap m.amount (total (chosen q ms)) (total (chosen r ms)))
     by false false false later e = e
+    by false false true x e = elim x [ ]
+    by false true c x e = elim x [ ]
+    by true false false x e = elim x [ ]
+    by true true true x e = elim x [ ]
 
 -- up to a day is before it or on it
 upto : (v d : ℕ) → One (leb v d) (ltb v d) (eqb v d)

@@ -1,0 +1,19 @@
+use mir.Facts.{to_z-of_z}
+use borrow.Author.Rules.{sfits_of}
+use Rattle.amounts.proofs.Whole.{fits_abs}
+use Rattle.cash.proofs.Loops.{ran_start, ran_bound, ran_again, ran_end}
+use Rattle.cash.proofs.run.Goals as goal
+
+pub loop-i-init : goal.loop-i-init
+loop-i-init c = ran_start _
+
+pub overflow_add-sum : goal.overflow_add-sum
+overflow_add-sum c =
+    rw (to_z-of_z (sfits_of c.sum-1.given)) (fits_abs _ (ran_bound c.loop-i.invariant c.requires c.loop-i-test.true))
+
+pub loop-i-preserved : goal.loop-i-preserved
+loop-i-preserved c =
+    ran_again c.requires c.loop-i.invariant c.loop-i-test.true (sfits_of c.sum-1.given)
+
+pub returns : goal.returns
+returns c = ran_end c.loop-i.invariant c.loop-i-test.false
