@@ -1,4 +1,3 @@
-pub mod While
 pub mod Filled
 pub mod Reading
 pub mod One

@@ -13,5 +13,4 @@ pub mod Tallied
 pub mod Places
 pub mod Ends
 pub mod Folded
-pub mod Again
 pub mod One
