@@ -5,9 +5,11 @@ ghost use Rattle.std.specs.Prelude.{◌≤◌};
 ghost use Rattle.records.specs.July.{most_in_file};
 
 use framing::Form;
-use libc::STDOUT_FILENO;
 use records::{MOST_IN_FILE, MOST_IN_STATEMENT, RECORD};
 use statements::Checked;
+use std::io::{Read, Write};
+use std::rt::Files;
+use std::{env, fs, io};
 
 // The most records of a file.
 const FILE: usize = MOST_IN_FILE as usize;
@@ -18,60 +20,77 @@ const STATEMENT: usize = MOST_IN_STATEMENT as usize;
 // The bytes of a file with one record more than the most.
 const BIG: usize = (FILE + 1) * RECORD;
 
-fn word(text: &[u8]) {
-    io::write_all(STDOUT_FILENO, text);
+// The most bytes that are read of a kept file.
+const MOST_KEPT: u64 = 8192;
+
+// The most bytes of an argument.
+const MOST_ARGUMENT: usize = 4096;
+
+fn word(rt: &impl Print, text: &[u8]) -> io::Result<()> {
+    io::writer(rt).write_all(text)
 }
 
-fn number(n: u64) {
-    io::write_all(STDOUT_FILENO, b" ");
-    io::print_decimal(STDOUT_FILENO, n);
+fn number(rt: &impl Print, n: u64) -> io::Result<()> {
+    print!(rt; " {n}")
 }
 
 // A case's name and the answer on its file, on a line.
-fn report(name: &[u8], line_end: u64, file: &[u8]) {
-    word(name);
+fn report(rt: &impl Print, name: &[u8], line_end: u64, file: &[u8]) -> io::Result<()> {
+    word(rt, name)?;
     match statements::check(Form { line_end }, file) {
         Checked::Accepted {
             statements,
             movements,
             complements,
         } => {
-            word(b" accepted");
-            number(statements);
-            number(movements);
-            number(complements);
+            word(rt, b" accepted")?;
+            number(rt, statements)?;
+            number(rt, movements)?;
+            number(rt, complements)?;
         }
         Checked::Refused { number: n, record } => {
-            word(b" refused");
-            number(n);
-            number(record);
+            word(rt, b" refused")?;
+            number(rt, n)?;
+            number(rt, record)?;
         }
     }
-    word(b"\n");
+    word(rt, b"\n")
+}
+
+// An argument by its number; empty where it is missing or too long.
+fn argument(args: &[String], k: usize) -> &str {
+    match args.get(k) {
+        Some(text) if text.len() <= MOST_ARGUMENT => text.as_str(),
+        _ => "",
+    }
 }
 
 // The case that two arguments name: a file, and its line-end number.
-fn kept(k: usize) -> bool {
+fn kept(rt: &(impl Print + Eprint + Files + Alloc), args: &[String], k: usize) -> io::Result<bool> {
     if 1000 <= k {
-        return false;
+        return Ok(false);
     }
-    let mut path = io::buffer();
-    let length = os::arg(k, &mut path);
-    if length == 0 {
-        return false;
+    let path = argument(args, k);
+    if path.is_empty() {
+        return Ok(false);
     }
-    let mut digits = io::buffer();
-    let n = os::arg(k + 1, &mut digits);
-    let fd = os::open_read(&path[..length]);
-    if fd < 0 {
-        os::fail(&path[..length]);
-        return false;
-    }
-    let mut buffer = [0u8; 8192];
-    let got = io::read_full(fd, &mut buffer);
-    libc::close(fd);
-    report(&path[..length], zones::number(&digits[..n]), &buffer[..got]);
-    true
+    let digits = argument(args, k + 1);
+    let file = match fs::open(rt, path) {
+        Ok(file) => file,
+        Err(error) => {
+            eprintln!(rt; "{path}: {error}")?;
+            return Ok(false);
+        }
+    };
+    let mut buffer = Vec::new(rt.alloc());
+    file.take(MOST_KEPT).read_to_end(&mut buffer)?;
+    report(
+        rt,
+        path.as_bytes(),
+        zones::number(digits.as_bytes()),
+        &buffer,
+    )?;
+    Ok(true)
 }
 
 // A record at its place in a large file, counted from 0.
@@ -119,10 +138,8 @@ fn put_wrong_closing(big: &mut [u8], i: usize) {
 // As many movements of nothing, after an opening.
 fn put_movements(big: &mut [u8], count: usize) {
     put_opening(big, 0);
-    let mut i: usize = 0;
-    while i < count {
+    for i in 0..count {
         put_movement(big, i + 1);
-        i += 1;
     }
 }
 
@@ -130,65 +147,67 @@ fn put_movements(big: &mut [u8], count: usize) {
 fn put_statements(big: &mut [u8], count: usize)
     requires { count ≤ most_in_file }
 {
-    let mut i: usize = 0;
-    while i < count {
+    for i in 0..count {
         put_opening(big, 2 * i);
         put_closing(big, 2 * i + 1);
-        i += 1;
     }
 }
 
-fn report_big(name: &[u8], big: &[u8], records: usize) {
+fn report_big(rt: &impl Print, name: &[u8], big: &[u8], records: usize) -> io::Result<()> {
     if records <= FILE + 1 {
         let end = records * RECORD;
         if end <= big.len() {
-            report(name, 0, &big[0..end]);
+            return report(rt, name, 0, &big[0..end]);
         }
     }
+    Ok(())
 }
 
 // The most records of a file, and one more.
-fn file_cases(big: &mut [u8]) {
+fn file_cases(rt: &impl Print, big: &mut [u8]) -> io::Result<()> {
     put_statements(big, FILE / 2 + 1);
-    report_big(b"records-20000", big, FILE);
-    report_big(b"records-20001", big, FILE + 1);
-    report_big(b"records-19999-open", big, FILE - 1);
+    report_big(rt, b"records-20000", big, FILE)?;
+    report_big(rt, b"records-20001", big, FILE + 1)?;
+    report_big(rt, b"records-19999-open", big, FILE - 1)
 }
 
 // The most records of a statement.
-fn statement_cases(big: &mut [u8]) {
+fn statement_cases(rt: &impl Print, big: &mut [u8]) -> io::Result<()> {
     put_movements(big, STATEMENT - 2);
     put_closing(big, STATEMENT - 1);
-    report_big(b"statement-9999", big, STATEMENT);
+    report_big(rt, b"statement-9999", big, STATEMENT)?;
     put_movement(big, STATEMENT - 1);
-    report_big(b"statement-9999-no-07", big, STATEMENT);
+    report_big(rt, b"statement-9999-no-07", big, STATEMENT)
 }
 
 // A record that would be one too many.
-fn last_cases(big: &mut [u8]) {
+fn last_cases(rt: &impl Print, big: &mut [u8]) -> io::Result<()> {
     put_closing(big, STATEMENT);
-    report_big(b"10000th-is-07", big, STATEMENT + 1);
+    report_big(rt, b"10000th-is-07", big, STATEMENT + 1)?;
     put_wrong_closing(big, STATEMENT);
-    report_big(b"10000th-07-sum-wrong", big, STATEMENT + 1);
+    report_big(rt, b"10000th-07-sum-wrong", big, STATEMENT + 1)?;
     put_opening(big, STATEMENT);
-    report_big(b"10000th-is-01", big, STATEMENT + 1);
+    report_big(rt, b"10000th-is-01", big, STATEMENT + 1)
 }
 
-fn big_cases(big: &mut [u8]) {
-    file_cases(big);
-    statement_cases(big);
-    last_cases(big);
+fn big_cases(rt: &impl Print, big: &mut [u8]) -> io::Result<()> {
+    file_cases(rt, big)?;
+    statement_cases(rt, big)?;
+    last_cases(rt, big)
 }
 
-fn large(big: &mut [u8; BIG]) {
-    big_cases(big);
+// The large files are made in one buffer, blank at first.
+fn large(rt: &(impl Print + Alloc)) -> io::Result<()> {
+    let mut big = vec![in rt.alloc(); b' '; BIG]?;
+    big_cases(rt, &mut big)
 }
 
-fn main() {
-    let mut k: usize = 1;
-    while k < 1000 && kept(k) {
-        k += 2;
+fn main(rt: HostRuntime) -> io::Result<()> {
+    let args: Vec<String> = env::args(&rt)?.collect(rt.alloc())?;
+    for k in (1..1000).step_by(2) {
+        if !kept(&rt, &args, k)? {
+            break;
+        }
     }
-    let mut big = [32u8; BIG];
-    large(&mut big);
+    large(&rt)
 }

@@ -3,64 +3,73 @@
 
 use amounts::Amount;
 use dates::Date;
-use libc::STDOUT_FILENO;
+use std::io;
+use std::io::Write;
 
-fn print_signed(v: i64) {
-    if v < 0 {
-        io::write_all(STDOUT_FILENO, b"-");
-    }
-    io::print_decimal(STDOUT_FILENO, amounts::absolute(v));
+fn word(rt: &impl Print, text: &[u8]) -> io::Result<()> {
+    io::writer(rt).write_all(text)
 }
 
-fn amount(text: &[u8]) {
-    io::write_all(STDOUT_FILENO, text);
+fn number(rt: &impl Print, n: u64) -> io::Result<()> {
+    print!(rt; "{n}")
+}
+
+fn print_signed(rt: &impl Print, v: i64) -> io::Result<()> {
+    if v < 0 {
+        word(rt, b"-")?;
+    }
+    number(rt, amounts::absolute(v))
+}
+
+fn amount(rt: &impl Print, text: &[u8]) -> io::Result<()> {
+    word(rt, text)?;
     match amounts::read(text) {
         Amount::Value(v) => {
-            io::write_all(STDOUT_FILENO, b" is ");
-            print_signed(v);
+            word(rt, b" is ")?;
+            print_signed(rt, v)?;
         }
         Amount::NoAmount => {
-            io::write_all(STDOUT_FILENO, b" refusal 8");
+            word(rt, b" refusal 8")?;
         }
     }
-    io::write_all(STDOUT_FILENO, b"\n");
+    word(rt, b"\n")
 }
 
-fn date(text: &[u8]) {
-    io::write_all(STDOUT_FILENO, text);
+fn date(rt: &impl Print, text: &[u8]) -> io::Result<()> {
+    word(rt, text)?;
     match dates::read(text) {
         Date::Day(k) => {
-            io::write_all(STDOUT_FILENO, b" is ");
-            io::print_decimal(STDOUT_FILENO, k as u64);
+            word(rt, b" is ")?;
+            number(rt, k as u64)?;
         }
         Date::NoDay => {
-            io::write_all(STDOUT_FILENO, b" refusal 9");
+            word(rt, b" refusal 9")?;
         }
     }
-    io::write_all(STDOUT_FILENO, b"\n");
+    word(rt, b"\n")
 }
 
-fn code(text: &[u8; 2]) {
-    io::write_all(STDOUT_FILENO, text);
-    io::write_all(STDOUT_FILENO, b" is ");
-    io::print_decimal(STDOUT_FILENO, codes::number(text[0], text[1]) as u64);
-    io::write_all(STDOUT_FILENO, b"\n");
+fn code(rt: &impl Print, text: &[u8; 2]) -> io::Result<()> {
+    word(rt, text)?;
+    word(rt, b" is ")?;
+    number(rt, codes::number(text[0], text[1]) as u64)?;
+    word(rt, b"\n")
 }
 
-fn main() {
-    amount(b"0000000010000{");
-    amount(b"0000000000421P");
-    amount(b"0000000000000{");
-    amount(b"0000000000000}");
-    amount(b"9999999999999R");
-    amount(b"00000000000005");
-    date(b"290224");
-    date(b"290225");
-    date(b"290200");
-    date(b"010180");
-    code(b"28");
-    code(b"A3");
-    code(b"01");
-    code(b"16");
-    code(b"19");
+fn main(rt: HostRuntime) -> io::Result<()> {
+    amount(&rt, b"0000000010000{")?;
+    amount(&rt, b"0000000000421P")?;
+    amount(&rt, b"0000000000000{")?;
+    amount(&rt, b"0000000000000}")?;
+    amount(&rt, b"9999999999999R")?;
+    amount(&rt, b"00000000000005")?;
+    date(&rt, b"290224")?;
+    date(&rt, b"290225")?;
+    date(&rt, b"290200")?;
+    date(&rt, b"010180")?;
+    code(&rt, b"28")?;
+    code(&rt, b"A3")?;
+    code(&rt, b"01")?;
+    code(&rt, b"16")?;
+    code(&rt, b"19")
 }

@@ -6,8 +6,19 @@ ghost use Rattle.std.specs.Prelude.{◌≡◌, ◌<◌, ◌≤◌, length};
 use framing::Form;
 use journal::{Delivery, Found, KEY};
 use journal_layout::Opening;
-use libc::STDOUT_FILENO;
 use readers::Place;
+use std::io::{Read, Write};
+use std::rt::Files;
+use std::{env, fs, io};
+
+// The most bytes of a journal.
+const MOST_JOURNAL: usize = 65536;
+
+// The most bytes that are read of a series.
+const MOST_SERIES: u64 = 131072;
+
+// The most bytes of an argument.
+const MOST_ARGUMENT: usize = 4096;
 
 // An operation of a series: its letter, its two numbers, and where its payload begins and ends.
 #[derive(Clone, Copy)]
@@ -19,32 +30,32 @@ struct Operation {
     end: usize,
 }
 
-fn word(text: &[u8]) {
-    io::write_all(STDOUT_FILENO, text);
+fn word(rt: &impl Print, text: &[u8]) -> io::Result<()> {
+    io::writer(rt).write_all(text)
 }
 
-fn number(n: u64) {
-    word(b" ");
-    io::print_decimal(STDOUT_FILENO, n);
+fn number(rt: &impl Print, n: u64) -> io::Result<()> {
+    print!(rt; " {n}")
 }
 
 // A whole number, a minus before a debit.
-fn balance(v: i64) {
-    word(b" ");
+fn balance(rt: &impl Print, v: i64) -> io::Result<()> {
+    word(rt, b" ")?;
     if v < 0 {
-        word(b"-");
+        word(rt, b"-")?;
     }
-    io::print_decimal(STDOUT_FILENO, amounts::absolute(v));
+    let size = amounts::absolute(v);
+    print!(rt; "{size}")
 }
 
-fn end_line() {
-    word(b"\n");
+fn end_line(rt: &impl Print) -> io::Result<()> {
+    word(rt, b"\n")
 }
 
-fn refused(n: u64, record: u64) {
-    word(b" refused");
-    number(n);
-    number(record);
+fn refused(rt: &impl Print, n: u64, record: u64) -> io::Result<()> {
+    word(rt, b" refused")?;
+    number(rt, n)?;
+    number(rt, record)
 }
 
 fn wide(b: u8) -> u64
@@ -56,59 +67,55 @@ fn wide(b: u8) -> u64
 // A number over all the journal's bytes, so that a line also tells what a journal holds.
 fn hash(journal: &[u8]) -> u64 {
     let mut h: u64 = 0;
-    let mut i: usize = 0;
-    while i < journal.len() {
-        h = (h * 31 + wide(journal[i])) % 4294967291;
-        i += 1;
+    for b in journal {
+        h = (h * 31 + wide(*b)) % 4294967291;
     }
     h
 }
 
 fn put_dots(journal: &mut [u8]) {
-    let mut i: usize = 0;
-    while i < journal.len() {
-        journal[i] = b'.';
-        i += 1;
+    for b in journal.iter_mut() {
+        *b = b'.';
     }
 }
 
 // A new journal: dots, as long as the operation says.
-fn renew(journal: &mut [u8]) {
+fn renew(rt: &impl Print, journal: &mut [u8]) -> io::Result<()> {
     put_dots(journal);
-    word(b"J");
-    number(journal.len() as u64);
-    end_line();
+    word(rt, b"J")?;
+    number(rt, journal.len() as u64)?;
+    end_line(rt)
 }
 
-fn open(journal: &mut [u8]) {
-    word(b"O");
+fn open(rt: &impl Print, journal: &mut [u8]) -> io::Result<()> {
+    word(rt, b"O")?;
     match journal_layout::open(journal) {
-        Opening::Opened => word(b" opened"),
-        Opening::Refused { number: n, record } => refused(n, record),
+        Opening::Opened => word(rt, b" opened")?,
+        Opening::Refused { number: n, record } => refused(rt, n, record)?,
     }
-    number(hash(journal));
-    end_line();
+    number(rt, hash(journal))?;
+    end_line(rt)
 }
 
-fn sound(journal: &[u8]) {
+fn sound(rt: &impl Print, journal: &[u8]) -> io::Result<()> {
     if journal_layout::sound(journal) {
-        word(b"S sound\n");
+        word(rt, b"S sound\n")
     } else {
-        word(b"S unsound\n");
+        word(rt, b"S unsound\n")
     }
 }
 
-fn entry(journal: &[u8], e: u64) {
-    word(b"E");
+fn entry(rt: &impl Print, journal: &[u8], e: u64) -> io::Result<()> {
+    word(rt, b"E")?;
     match journal_layout::entry_place(journal, e) {
         Place::At { first, len } => {
-            word(b" at");
-            number(first as u64);
-            number(len as u64);
+            word(rt, b" at")?;
+            number(rt, first as u64)?;
+            number(rt, len as u64)?;
         }
-        Place::Refused { number: n, record } => refused(n, record),
+        Place::Refused { number: n, record } => refused(rt, n, record)?,
     }
-    end_line();
+    end_line(rt)
 }
 
 // A byte changed, where the journal has it. Whether the number is one of a byte.
@@ -123,24 +130,24 @@ fn poke(journal: &mut [u8], offset: u64, b: u64) -> bool {
     true
 }
 
-fn deliver(journal: &mut [u8], form: Form, file: &[u8]) {
-    word(b"D");
+fn deliver(rt: &impl Print, journal: &mut [u8], form: Form, file: &[u8]) -> io::Result<()> {
+    word(rt, b"D")?;
     match journal::deliver(journal, form, file) {
         Delivery::Done { stored, held } => {
-            word(b" stored");
-            number(stored);
-            word(b" held");
-            number(held);
+            word(rt, b" stored")?;
+            number(rt, stored)?;
+            word(rt, b" held")?;
+            number(rt, held)?;
         }
         Delivery::Refused(refusal) => {
-            refused(refusal.number, refusal.record);
-            word(b" expected");
-            number(refusal.expected_date as u64);
-            balance(refusal.expected_balance);
+            refused(rt, refusal.number, refusal.record)?;
+            word(rt, b" expected")?;
+            number(rt, refusal.expected_date as u64)?;
+            balance(rt, refusal.expected_balance)?;
         }
     }
-    number(hash(journal));
-    end_line();
+    number(rt, hash(journal))?;
+    end_line(rt)
 }
 
 // A payload too short for a key is all key.
@@ -155,49 +162,56 @@ fn key_size(payload: &[u8]) -> usize
 }
 
 // Where the newest statement of an account stands. Bodies have no line ends, so their line-end number is 0.
-fn newest(journal: &[u8], form: Form, file: &[u8], key: &[u8]) {
-    word(b"N");
+fn newest(rt: &impl Print, journal: &[u8], form: Form, file: &[u8], key: &[u8]) -> io::Result<()> {
+    word(rt, b"N")?;
     match journal::newest_place(journal, form, file, key) {
         Found::InJournal { first, len } => {
-            word(b" journal");
-            number(first as u64);
-            number(len as u64);
-            number(0);
+            word(rt, b" journal")?;
+            number(rt, first as u64)?;
+            number(rt, len as u64)?;
+            number(rt, 0)?;
         }
         Found::InFile {
             first,
             len,
             line_end,
         } => {
-            word(b" file");
-            number(first as u64);
-            number(len as u64);
-            number(line_end);
+            word(rt, b" file")?;
+            number(rt, first as u64)?;
+            number(rt, len as u64)?;
+            number(rt, line_end)?;
         }
-        Found::Refused { number: n, record } => refused(n, record),
+        Found::Refused { number: n, record } => refused(rt, n, record)?,
     }
-    end_line();
+    end_line(rt)
 }
 
 // The account's key leads the payload, and the file follows it.
-fn ask(journal: &[u8], form: Form, payload: &[u8]) {
+fn ask(rt: &impl Print, journal: &[u8], form: Form, payload: &[u8]) -> io::Result<()> {
     let size = key_size(payload);
-    newest(journal, form, &payload[size..], &payload[0..size]);
+    newest(rt, journal, form, &payload[size..], &payload[0..size])
 }
 
 // The operation of a letter. Whether there is one.
-fn perform(journal: &mut [u8], letter: u8, a: u64, b: u64, payload: &[u8]) -> bool {
+fn perform(
+    rt: &impl Print,
+    journal: &mut [u8],
+    letter: u8,
+    a: u64,
+    b: u64,
+    payload: &[u8],
+) -> io::Result<bool> {
     match letter {
-        b'J' => renew(journal),
-        b'O' => open(journal),
-        b'S' => sound(journal),
-        b'E' => entry(journal, a),
-        b'P' => return poke(journal, a, b),
-        b'D' => deliver(journal, Form { line_end: a }, payload),
-        b'N' => ask(journal, Form { line_end: a }, payload),
-        _ => return false,
+        b'J' => renew(rt, journal)?,
+        b'O' => open(rt, journal)?,
+        b'S' => sound(rt, journal)?,
+        b'E' => entry(rt, journal, a)?,
+        b'P' => return Ok(poke(journal, a, b)),
+        b'D' => deliver(rt, journal, Form { line_end: a }, payload)?,
+        b'N' => ask(rt, journal, Form { line_end: a }, payload)?,
+        _ => return Ok(false),
     }
-    true
+    Ok(true)
 }
 
 fn is_header(h: &[u8]) -> bool
@@ -261,7 +275,7 @@ fn operation_at(series: &[u8], at: usize) -> Operation
 }
 
 // The operations of a series in turn, on a journal at the start of a buffer, empty at first.
-fn run(buffer: &mut [u8], series: &[u8]) {
+fn run(rt: &impl Print, buffer: &mut [u8], series: &[u8]) -> io::Result<()> {
     let mut n: usize = 0;
     let mut at: usize = 0;
     while at < series.len() {
@@ -272,53 +286,79 @@ fn run(buffer: &mut [u8], series: &[u8]) {
             n = x.a as usize;
         }
         if buffer.len() < n {
-            word(b"too long\n");
-            return;
+            return word(rt, b"too long\n");
         }
-        if !perform(&mut buffer[..n], x.letter, x.a, x.b, &series[first..end]) {
-            word(b"malformed\n");
-            return;
+        if !perform(
+            rt,
+            &mut buffer[..n],
+            x.letter,
+            x.a,
+            x.b,
+            &series[first..end],
+        )? {
+            return word(rt, b"malformed\n");
         }
         at = end;
     }
+    Ok(())
 }
 
 // The series of an open file, which is closed.
-fn run_file(fd: i32, buffer: &mut [u8], series: &mut [u8]) {
-    let got = io::read_full(fd, series);
-    libc::close(fd);
-    run(buffer, &series[..got]);
+fn run_file(
+    rt: &impl Print,
+    file: impl Read + Drop,
+    buffer: &mut [u8],
+    series: &mut Vec<u8>,
+) -> io::Result<()> {
+    file.take(MOST_SERIES).read_to_end(series)?;
+    run(rt, buffer, series)
 }
 
-// The arrays are lent whole, and become slices here.
-fn run_in(fd: i32, buffer: &mut [u8; 65536], series: &mut [u8; 131072]) {
-    run_file(fd, buffer, series);
+// The buffers of a journal and of a series are made here, and lent.
+fn run_in(rt: &(impl Print + AllocGlobal), file: impl Read + Drop) -> io::Result<()> {
+    let mut buffer = vec![in rt.alloc(); 0u8; MOST_JOURNAL]?;
+    let mut series = Vec::new(rt.alloc());
+    run_file(rt, file, &mut buffer, &mut series)
+}
+
+// An argument by its number; empty where it is missing or too long.
+fn argument(args: &[String], k: usize) -> &str {
+    match args.get(k) {
+        Some(text) if text.len() <= MOST_ARGUMENT => text.as_str(),
+        _ => "",
+    }
 }
 
 // The case that an argument names: a series file.
-fn kept(k: usize) -> bool {
-    let mut path = io::buffer();
-    let length = os::arg(k, &mut path);
-    if length == 0 {
-        return false;
+fn kept(
+    rt: &(impl Print + Eprint + Files + AllocGlobal),
+    args: &[String],
+    k: usize,
+) -> io::Result<bool> {
+    let path = argument(args, k);
+    if path.is_empty() {
+        return Ok(false);
     }
-    let fd = os::open_read(&path[..length]);
-    if fd < 0 {
-        os::fail(&path[..length]);
-        return false;
-    }
-    word(b"== data/");
-    word(&path[..length]);
-    end_line();
-    let mut buffer = [0u8; 65536];
-    let mut series = [0u8; 131072];
-    run_in(fd, &mut buffer, &mut series);
-    true
+    let file = match fs::open(rt, path) {
+        Ok(file) => file,
+        Err(error) => {
+            eprintln!(rt; "{path}: {error}")?;
+            return Ok(false);
+        }
+    };
+    word(rt, b"== data/")?;
+    word(rt, path.as_bytes())?;
+    end_line(rt)?;
+    run_in(rt, file)?;
+    Ok(true)
 }
 
-fn main() {
-    let mut k: usize = 1;
-    while k < 1000 && kept(k) {
-        k += 1;
+fn main(rt: HostRuntime) -> io::Result<()> {
+    let args: Vec<String> = env::args(&rt)?.collect(rt.alloc())?;
+    for k in 1..1000 {
+        if !kept(&rt, &args, k)? {
+            break;
+        }
     }
+    Ok(())
 }

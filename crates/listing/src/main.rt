@@ -5,9 +5,10 @@ use contents::Head;
 use fields::Movement;
 use framing::Form;
 use grammar::Key;
-use libc::{STDIN_FILENO, STDOUT_FILENO};
 use records::RECORD;
 use statements::Checked;
+use std::io;
+use std::io::{Read, Write};
 
 // The bytes of a record with its line end.
 const LINE: usize = RECORD + 1;
@@ -19,146 +20,150 @@ fn lf() -> Form {
     Form { line_end: 1 }
 }
 
-fn word(text: &[u8]) {
-    io::write_all(STDOUT_FILENO, text);
+fn word(rt: &impl Print, text: &[u8]) -> io::Result<()> {
+    io::writer(rt).write_all(text)
 }
 
-fn blank() {
-    word(b" ");
+fn blank(rt: &impl Print) -> io::Result<()> {
+    word(rt, b" ")
 }
 
-fn number(n: u64) {
-    io::print_decimal(STDOUT_FILENO, n);
+fn number(rt: &impl Print, n: u64) -> io::Result<()> {
+    print!(rt; "{n}")
 }
 
 // A whole number, a minus before a debit.
-fn balance(v: i64) {
+fn balance(rt: &impl Print, v: i64) -> io::Result<()> {
     if v < 0 {
-        word(b"-");
+        word(rt, b"-")?;
     }
-    number(amounts::absolute(v));
+    number(rt, amounts::absolute(v))
 }
 
 // Two digits.
-fn pair(n: u64) {
+fn pair(rt: &impl Print, n: u64) -> io::Result<()> {
     let mut text = [0u8; 2];
     zones::put_number(&mut text, n);
-    word(&text);
+    word(rt, &text)
 }
 
 // YYYY-MM-DD.
-fn date(day: u32) {
+fn date(rt: &impl Print, day: u32) -> io::Result<()> {
     let k = day as u64;
     let mut year = [0u8; 4];
     zones::put_number(&mut year, k / 10000);
-    word(&year);
-    word(b"-");
-    pair(k / 100 % 100);
-    word(b"-");
-    pair(k % 100);
+    word(rt, &year)?;
+    word(rt, b"-")?;
+    pair(rt, k / 100 % 100)?;
+    word(rt, b"-")?;
+    pair(rt, k % 100)
 }
 
 // Bank, branch, account, currency, decimals.
-fn account(k: Key) {
-    word(&k.bank);
-    blank();
-    word(&k.branch);
-    blank();
-    word(&k.account);
-    blank();
-    word(&k.currency);
-    blank();
+fn account(rt: &impl Print, k: Key) -> io::Result<()> {
+    word(rt, &k.bank)?;
+    blank(rt)?;
+    word(rt, &k.branch)?;
+    blank(rt)?;
+    word(rt, &k.account)?;
+    blank(rt)?;
+    word(rt, &k.currency)?;
+    blank(rt)?;
     let decimals = [k.decimals];
-    word(&decimals);
+    word(rt, &decimals)
 }
 
 // Booking date, value date, code, amount.
-fn movement_line(m: Movement) {
-    word(b"M ");
-    date(m.booked);
-    blank();
-    date(m.value);
-    blank();
-    word(&m.code);
-    blank();
-    balance(m.amount);
-    word(b"\n");
+fn movement_line(rt: &impl Print, m: Movement) -> io::Result<()> {
+    word(rt, b"M ")?;
+    date(rt, m.booked)?;
+    blank(rt)?;
+    date(rt, m.value)?;
+    blank(rt)?;
+    word(rt, &m.code)?;
+    blank(rt)?;
+    balance(rt, m.amount)?;
+    word(rt, b"\n")
 }
 
 // Account, old date and balance, number of movements, new date and balance.
-fn statement_line(h: Head, movements: u64) {
-    word(b"S ");
-    account(h.key);
-    blank();
-    date(h.old_date);
-    blank();
-    balance(h.old_balance);
-    blank();
-    number(movements);
-    blank();
-    date(h.new_date);
-    blank();
-    balance(h.new_balance);
-    word(b"\n");
+fn statement_line(rt: &impl Print, h: Head, movements: u64) -> io::Result<()> {
+    word(rt, b"S ")?;
+    account(rt, h.key)?;
+    blank(rt)?;
+    date(rt, h.old_date)?;
+    blank(rt)?;
+    balance(rt, h.old_balance)?;
+    blank(rt)?;
+    number(rt, movements)?;
+    blank(rt)?;
+    date(rt, h.new_date)?;
+    blank(rt)?;
+    balance(rt, h.new_balance)?;
+    word(rt, b"\n")
 }
 
 // The lines of a statement's movements. They begin after its 01.
-fn movement_lines(part: &[u8]) {
+fn movement_lines(rt: &impl Print, part: &[u8]) -> io::Result<()> {
     let mut at: usize = LINE;
     while at < part.len() {
         let step = readers::movement_step(part, lf(), at);
         if !step.found {
-            return;
+            return Ok(());
         }
-        movement_line(fields::row_at(contents::record_at(part, at), step.complements));
+        movement_line(
+            rt,
+            fields::row_at(contents::record_at(part, at), step.complements),
+        )?;
         at = step.next;
     }
+    Ok(())
 }
 
 // A statement is the one statement of its part.
-fn statement_lines(part: &[u8]) {
+fn statement_lines(rt: &impl Print, part: &[u8]) -> io::Result<()> {
     let first = contents::head_of(lf(), part, 1);
-    statement_line(first.head, first.movements);
-    movement_lines(part);
+    statement_line(rt, first.head, first.movements)?;
+    movement_lines(rt, part)
 }
 
-fn list(file: &[u8]) {
+fn list(rt: &impl Print, file: &[u8]) -> io::Result<()> {
     let mut at: usize = 0;
     while at < file.len() {
         let end = readers::statement_end(lf(), file, at);
-        statement_lines(&file[at..end]);
+        statement_lines(rt, &file[at..end])?;
         at = end;
     }
+    Ok(())
 }
 
-fn answer(file: &[u8]) {
+fn answer(rt: &impl Print, file: &[u8]) -> io::Result<()> {
     if MOST < file.len() {
-        word(b"TROP LONG\n");
-        return;
+        return word(rt, b"TROP LONG\n");
     }
     match statements::check(lf(), file) {
         Checked::Refused { number: n, record } => {
-            word(b"REFUS ");
-            number(n);
-            blank();
-            number(record);
-            word(b"\n");
+            word(rt, b"REFUS ")?;
+            number(rt, n)?;
+            blank(rt)?;
+            number(rt, record)?;
+            word(rt, b"\n")
         }
         Checked::Accepted {
             statements,
             movements: _,
             complements: _,
         } => {
-            list(file);
-            word(b"OK ");
-            number(statements);
-            word(b"\n");
+            list(rt, file)?;
+            word(rt, b"OK ")?;
+            number(rt, statements)?;
+            word(rt, b"\n")
         }
     }
 }
 
-fn main() {
-    let mut buffer = [0u8; MOST + 1];
-    let n = io::read_full(STDIN_FILENO, &mut buffer);
-    answer(&buffer[..n]);
+fn main(rt: HostRuntime) -> io::Result<()> {
+    let mut buffer = Vec::new(rt.alloc());
+    rt.reader().take(MOST as u64 + 1).read_to_end(&mut buffer)?;
+    answer(&rt, &buffer)
 }
