@@ -73,7 +73,7 @@ module _ (s : List ℕ) (l : length s ≡ 6) (h : all digit s ≡ true) where
   record Numbered (k : ℕ) : Type 0 where
     day : k % 100 ≡ value_of (take 2 s)
     month : k / 100 % 100 ≡ value_of (take 2 (drop 2 s))
-    year_of_lem : k / 10000 ≡ year_of (value_of (take 2 (drop 4 s)))
+    year_of : k / 10000 ≡ year_of (value_of (take 2 (drop 4 s)))
 
   numbered : (k : ℕ) → k ≡ day_number (year_of (value_of (take 2 (drop 4 s)))) (value_of (take 2 (drop 2 s))) (value_of (take 2 s)) → Numbered k
   numbered k e =
@@ -83,7 +83,7 @@ module _ (s : List ℕ) (l : length s ≡ 6) (h : all digit s ≡ true) where
       let a : d < 100 = pair_below 0 (omega arith) in
       let b : m < 100 = pair_below 2 (omega arith) in
       let u : k / 100 ≡ y * 100 + m = omega arith in
-      record { day = omega arith; month = rw u (digits_mod y b); year_of_lem = omega arith }
+      record { day = omega arith; month = rw u (digits_mod y b); year_of = omega arith }
 
 -- the tests that a date that was read has passed
 record Passed (s : List ℕ) (k : ℕ) : Type 0 where
@@ -114,7 +114,7 @@ text_read s k e =
     rw (
       n.day,
       n.month,
-      n.year_of_lem,
+      n.year_of,
       y.short,
       pair_back s p.wide p.digits 0 (omega arith),
       pair_back s p.wide p.digits 2 (omega arith),
@@ -129,7 +129,7 @@ read_day s k e =
     let p = passed s k e in
     let n = numbered s p.wide p.digits k p.number in
     let y = year (value_of (take 2 (drop 4 s))) (pair_below s p.wide p.digits 4 (omega arith)) in
-    rw (n.year_of_lem, n.month, n.day) (both (both (le-leb _ _ y.low) (le-leb _ _ y.high)) p.real)
+    rw (n.year_of, n.month, n.day) (both (both (le-leb _ _ y.low) (le-leb _ _ y.high)) p.real)
 
 pub length_text : (k : ℕ) → length (date_text k) ≡ 6
 unfolding date_text

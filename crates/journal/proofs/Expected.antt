@@ -93,13 +93,13 @@ module _ (hs ss : List Statement) (s : Statement) {at d : ℕ} {b : ℤ} where
   behind_held : held_among s hs ≡ true → Unfollowed hs ss at d b → Unfollowed hs (s ∷ ss) (size_of s + at) d b
   unfolding lines_of arrivals
   behind_held h u =
-      let r = u.record_at_lem in
+      let r = u.record_at in
       record {
         statement = u.statement;
         before = s ∷ u.before;
         behind = u.behind;
         stands = ap (λ l. s ∷ l) u.stands;
-        record_at_lem = omega arith;
+        record_at = omega arith;
         last = u.last;
         earlier = u.earlier;
         seen = rw h u.seen;
@@ -113,14 +113,14 @@ module _ (hs ss : List Statement) (s : Statement) {at d : ℕ} {b : ℤ} where
   behind_stored : held_among s hs ≡ false → Unfollowed (hs ++ (s ∷ [])) ss at d b → Unfollowed hs (s ∷ ss) (size_of s + at) d b
   unfolding lines_of arrivals
   behind_stored h u =
-      let r = u.record_at_lem in
+      let r = u.record_at in
       let a = append_assoc hs (s ∷ []) (arrivals (hs ++ (s ∷ [])) u.before) in
       record {
         statement = u.statement;
         before = s ∷ u.before;
         behind = u.behind;
         stands = ap (λ l. s ∷ l) u.stands;
-        record_at_lem = omega arith;
+        record_at = omega arith;
         last = u.last;
         earlier = u.earlier;
         seen = rw h (rw a at u.seen);
@@ -158,7 +158,7 @@ module _ (n : ℕ) (hs ss : List Statement) (s : Statement) (behind : ℕ) (w : 
                   before = [];
                   behind = ss;
                   stands = refl;
-                  record_at_lem = refl;
+                  record_at = refl;
                   last = x.last;
                   earlier = x.earlier;
                   seen = rw (append-nil hs) x.row;

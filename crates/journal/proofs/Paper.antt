@@ -47,13 +47,13 @@ delivers {j} {f} {b} p c = record { paper = (foretells {j = j} {f = f} {b = b} p
 
 module _ {j : List ℕ} {f : Form} {b x : List ℕ} {r : Found} (a : NewestPlace j f b x r) where
   pub newest_refused : {q : Refusal} → outcome_of j f b ≡ refused q
-      → paper_newest r ≡ record { number = q.number; at = q.«record»; source = 0; first = 0; len = 0; line_end_lem = 0 }
+      → paper_newest r ≡ record { number = q.number; at = q.«record»; source = 0; first = 0; len = 0; line_end = 0 }
   unfolding newest_of
   newest_refused o = ap paper_newest a.answer ∙ rw o
 
   module _ {hs : List Statement} (g : Journal j hs) {after : List Statement} {s h : ℕ} (o : outcome_of j f b ≡ delivered after s h) where
     -- no account has a key of another length
-    pub newest_no_key : (length x ≡ key_size → ⊥) → paper_newest r ≡ record { number = 25; at = 0; source = 0; first = 0; len = 0; line_end_lem = 0 }
+    pub newest_no_key : (length x ≡ key_size → ⊥) → paper_newest r ≡ record { number = 25; at = 0; source = 0; first = 0; len = 0; line_end = 0 }
     unfolding newest_of
     newest_no_key l = ap paper_newest a.answer ∙ rw (o, ne_eqb (length x) key_size l)
 
@@ -77,7 +77,7 @@ module _ {j : List ℕ} {f : Form} {b x : List ℕ} {r : Found} (a : NewestPlace
             source = 2;
             first = (get_or (spans_of (width_of record_size f) hs 0 (statements_of (coding_of f) f b)) (sent - 1) (span 0 0)).first;
             len = (get_or (spans_of (width_of record_size f) hs 0 (statements_of (coding_of f) f b)) (sent - 1) (span 0 0)).len;
-            line_end_lem = line_end f;
+            line_end = line_end f;
           }
       unfolding newest_among
       newest_sent p = ap paper_newest among ∙ rw (lt-ltb 0 sent p)
@@ -91,12 +91,12 @@ module _ {j : List ℕ} {f : Form} {b x : List ℕ} {r : Found} (a : NewestPlace
               source = 1;
               first = table_size + record_size * records_before (held - 1) hs;
               len = record_size * size_of (get_or hs (held - 1) no_statement);
-              line_end_lem = 0;
+              line_end = 0;
             }
         unfolding newest_among
         newest_held p = ap paper_newest among ∙ rw (z, lt-ltb 0 held p)
 
-        pub newest_none : held ≡ 0 → paper_newest r ≡ record { number = 25; at = 0; source = 0; first = 0; len = 0; line_end_lem = 0 }
+        pub newest_none : held ≡ 0 → paper_newest r ≡ record { number = 25; at = 0; source = 0; first = 0; len = 0; line_end = 0 }
         unfolding newest_among
         newest_none p = ap paper_newest among ∙ rw (z, p)
 
@@ -131,7 +131,7 @@ NumberedFound (N.Refused n r) = 1 ≤ n
 
 abbrev found_from : PaperNewest → Found
 found_from p =
-    pick (eqb p.number 0) (pick (eqb p.source 1) (N.InJournal p.first p.len) (N.InFile p.first p.len p.line_end_lem))
+    pick (eqb p.number 0) (pick (eqb p.source 1) (N.InJournal p.first p.len) (N.InFile p.first p.len p.line_end))
     (N.Refused p.number p.at)
 
 from_found : (r : Found) → NumberedFound r → found_from (paper_newest r) ≡ r

@@ -45,7 +45,7 @@ module _ (j : List ℕ) (h : sound_in j ≡ true) where
         summed = journal_summed g;
         never_falls = journal_never_falls g;
         entry = body_of_entry;
-        no_entry_lem = past_the_last;
+        no_entry = past_the_last;
         held = sound_held j h;
         body = sound_body j h;
         reads = sound_reads j h;

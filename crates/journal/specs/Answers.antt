@@ -41,12 +41,12 @@ pub record PaperNewest : Type 0 where
   pub source : ℕ
   pub first : ℕ
   pub len : ℕ
-  pub line_end_lem : ℕ
+  pub line_end : ℕ
 
 abbrev pub paper_newest : Found → PaperNewest
-paper_newest (InJournal x n) = record { number = 0; at = 0; source = 1; first = x; len = n; line_end_lem = 0 }
-paper_newest (InFile x n e) = record { number = 0; at = 0; source = 2; first = x; len = n; line_end_lem = e }
-paper_newest (N.Refused n r) = record { number = n; at = r; source = 0; first = 0; len = 0; line_end_lem = 0 }
+paper_newest (InJournal x n) = record { number = 0; at = 0; source = 1; first = x; len = n; line_end = 0 }
+paper_newest (InFile x n e) = record { number = 0; at = 0; source = 2; first = x; len = n; line_end = e }
+paper_newest (N.Refused n r) = record { number = n; at = r; source = 0; first = 0; len = 0; line_end = 0 }
 
 -- number and record, and how many are held; zero where the paper says zero
 pub record PaperHolding : Type 0 where

@@ -18,7 +18,7 @@ pub record Unfollowed (hs ss : List Statement) (at date : ℕ) (balance : ℤ) :
   pub before : List Statement
   pub behind : List Statement
   pub stands : ss ≡ before ++ (statement ∷ behind)
-  pub record_at_lem : at ≡ lines_of before + 1
+  pub record_at : at ≡ lines_of before + 1
   -- the account's last statement: held, or stored earlier from the same file
   pub last : Statement
   pub earlier : List Statement

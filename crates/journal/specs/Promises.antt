@@ -38,7 +38,7 @@ pub record Promise (j : List ℕ) (ss : List Statement) : Type 0 where
   pub never_falls : (k : Key) → NeverFalls (of_account k ss)
   -- the body of entry e, from 1, is that of statement e; there is no other
   pub entry : (e : ℕ) → 0 < e → e ≤ length ss → entry_body_of j e ≡ body_of (get_or ss (e - 1) no_statement)
-  pub no_entry_lem : (e : ℕ) → length ss < e → entry_place_of j e ≡ P.Refused 25 0
+  pub no_entry : (e : ℕ) → length ss < e → entry_place_of j e ≡ P.Refused 25 0
   -- after one test: how many there are, the body of entry e, what it reads as, whose it is, and that there is no other
   pub held : holding_of j ≡ Statements (length ss)
   pub body : (e : ℕ) → 0 < e → e ≤ length ss → body_in j e ≡ body_of (get_or ss (e - 1) no_statement)

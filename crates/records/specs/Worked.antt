@@ -74,12 +74,12 @@ abbrev pub crlf : List String → List ℕ
 crlf rs = file (13 ∷ 10 ∷ []) rs
 
 pub record Case : Type 0 where
-  pub line_end_lem : ℕ
+  pub line_end : ℕ
   pub bytes : List ℕ
   pub answer : Answer
 
 abbrev pub case : ℕ → List ℕ → Answer → Case
-case n b a = record { line_end_lem = n; bytes = b; answer = a }
+case n b a = record { line_end = n; bytes = b; answer = a }
 
 abbrev pub counts : ℕ → ℕ → ℕ → Answer
 counts s m c = accepted (record { statements = s; movements = m; complements = c })
@@ -123,7 +123,7 @@ written =
     ∷ []
 
 abbrev form_of : Case → Form
-form_of c = record { line_end = c.line_end_lem }
+form_of c = record { line_end = c.line_end }
 
 abbrev pub answers : List Case → List Answer
 answers [] = []

@@ -1,6 +1,10 @@
-use mathlib.Core.Path.{sym, ◌∙◌}
-use mathlib.Core.Bool.{true, false}
-use Prim.Native.Nat.{◌<◌}
+use mathlib.Core.Path.{◌≡◌, sym, ◌∙◌}
+use mathlib.Core.Bool.{Bool, true, false}
+use mathlib.Core.List.{List}
+use Prim.Native.Nat.{ℕ, ◌<◌}
+use lib.ListN.{length}
+use Rattle.zones.specs.Class.Class.{digit}
+use Rattle.zones.specs.Answers.{Tested, Number}
 use native.Mathlib.Omega.{arith}
 use mir.Facts.{to_z-of_z}
 use borrow.Author.Tests.{lt-ltb, le-ltb}
@@ -16,24 +20,17 @@ pub returns-then-not-digits : goal.returns-then-not-digits
 returns-then-not-digits c = record { answer = read_undigit _ c.digits.ensures c.if-not-digits.true }
 
 -- what thirteen digits are worth
-below : (c : goal.After-number) → c.number.result < 10000000000000
-below c =
-    let d = c.digits.ensures in
-    number_below c.number.ensures 13 (search rules) (omega arith) (sym d.answer ∙ c.if-not-digits.false)
-
-below_2 : (c : goal.Then-k-lt20) → c.number.result < 10000000000000
-below_2 c =
-    let d = c.digits.ensures in
-    number_below c.number.ensures 13 (search rules) (omega arith) (sym d.answer ∙ c.if-not-digits.false)
+below : (s : List ℕ) {n : ℕ} {r : Bool} → length s ≡ 13 → Tested digit s r → r ≡ true → Number s n → n < 10000000000000
+below s l d e n = number_below n 13 l (omega arith) (sym d.answer ∙ e)
 
 pub overflow_mul-m : goal.overflow_mul-m
-overflow_mul-m c = omega (arith, below c)
+overflow_mul-m c = omega (arith, below _ (search rules) c.digits.ensures c.if-not-digits.false c.number.ensures)
 
 pub overflow_add-m : goal.overflow_add-m
-overflow_add-m c = omega (arith, below c)
+overflow_add-m c = omega (arith, below _ (search rules) c.digits.ensures c.if-not-digits.false c.number.ensures)
 
 pub signed-requires : goal.signed-requires
-signed-requires c = omega (arith, below_2 c)
+signed-requires c = omega (arith, below _ (search rules) c.digits.ensures c.if-not-digits.false c.number.ensures)
 
 pub returns-then-k-lt20 : goal.returns-then-k-lt20
 returns-then-k-lt20 c =
