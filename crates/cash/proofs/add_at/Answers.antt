@@ -7,11 +7,11 @@ use Rattle.cash.proofs.add_at.Goals as goal
 
 pub overflow_add-table : goal.overflow_add-table
 overflow_add-table c =
-    stored_fits c.args.table.now c.args.i c.args.a (sfits_of c.table-1.given) c.ranges.a (c.requires c.if-i-table.true)
+    stored_fits c.args.table.now c.args.i c.args.a (search rules) c.ranges.a (c.requires c.if-i-table.true)
 
 pub returns-then-i-table : goal.returns-then-i-table
 returns-then-i-table c =
-    stored c.args.table.now c.args.i c.args.a (sfits_of c.table-1.given) c.ranges.a (c.requires c.if-i-table.true)
+    stored c.args.table.now c.args.i c.args.a (search rules) c.ranges.a (c.requires c.if-i-table.true)
 
 pub returns-else-i-table : goal.returns-else-i-table
 unfolding bump

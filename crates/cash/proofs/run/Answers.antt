@@ -9,11 +9,11 @@ loop-i-init c = ran_start _
 
 pub overflow_add-sum : goal.overflow_add-sum
 overflow_add-sum c =
-    rw (to_z-of_z (sfits_of c.sum-1.given)) (fits_abs _ (ran_bound c.loop-i.invariant c.requires c.loop-i-test.true))
+    rw (to_z-of_z (search rules)) (fits_abs _ (ran_bound c.loop-i.invariant c.requires c.loop-i-test.true))
 
 pub loop-i-preserved : goal.loop-i-preserved
 loop-i-preserved c =
-    ran_again c.requires c.loop-i.invariant c.loop-i-test.true (sfits_of c.sum-1.given)
+    ran_again c.requires c.loop-i.invariant c.loop-i-test.true (search rules)
 
 pub returns : goal.returns
 returns c = ran_end c.loop-i.invariant c.loop-i-test.false

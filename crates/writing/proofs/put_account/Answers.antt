@@ -4,15 +4,13 @@ use mathlib.Core.Path.{◌≡◌, refl}
 use lib.ListN.{replicate}
 use borrow.Author.Rules.{rules}
 use Rattle.writing.proofs.put_account.Goals as goal
-use Rattle.writing.proofs.put_account.Goals.{After-slice_known-6-1}
-
-named : (c : After-slice_known-6-1) → c.put.new.dst ≡ c.args.key.currency
-named c = put_whole c.put.ensures (search rules)
 
 pub returns : goal.returns
 returns c =
-    account_put 0 c.args.key (replicate 4 32) c.args.operation c.args.date (search rules) refl (search rules) c.args.out.now c.requires.0
-    (named c)
+    let k = c.args.key in
+    let named : c.put.new.dst ≡ k.currency = put_whole c.put.ensures (search rules) in
+    account_put 0 k (replicate 4 32) c.args.operation c.args.date (search rules) refl (search rules) c.args.out.now c.requires.0
+    named
     (put_whole c.put-2.ensures (search rules))
     (put_whole c.put-3.ensures (search rules))
     (put_whole c.put-4.ensures (search rules))

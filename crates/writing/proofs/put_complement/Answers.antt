@@ -1,13 +1,11 @@
 use mathlib.Core.Bool.{not}
 use mathlib.Core.Path.{ap}
-use lib.ListN.{length, replicate}
+use lib.ListN.{replicate}
 use Rattle.writing.proofs.Tested.{KeyWide, RowWide}
 use mathlib.Core.Path.{◌≡◌, sym, ◌∙◌}
-use mathlib.Core.Bool.{true, ◌&&◌}
-use borrow.Author.Tests.{not-false}
+use mathlib.Core.Bool.{◌&&◌}
 use Rattle.zones.proofs.Bools.{conj, and_left, and_right}
 use Rattle.zones.proofs.Called.{put_whole}
-use Rattle.records.specs.July.{text_size}
 use Rattle.writing.specs.Written.{movement_holds, text_holds, complement_put}
 use Rattle.writing.proofs.Filled.{complement_filled}
 use Rattle.writing.proofs.Refused.{other_room, not_held, held, dated, length_held}

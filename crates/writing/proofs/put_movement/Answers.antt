@@ -3,7 +3,6 @@ use Rattle.writing.proofs.Tested.{KeyWide, RowWide}
 use mathlib.Core.Path.{◌≡◌, sym, ap, ◌∙◌}
 use Rattle.grammar.specs.declared.Key.{Key}
 use Rattle.fields.specs.declared.Movement.{Movement}
-use borrow.Author.Tests.{not-false}
 use Rattle.writing.specs.Written.{movement_holds, movement_put}
 use Rattle.writing.proofs.Filled.{movement_filled}
 use Rattle.writing.proofs.Refused.{other_room, not_held, held, Dated, dated}
