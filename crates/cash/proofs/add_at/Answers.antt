@@ -1,6 +1,6 @@
 use mathlib.Core.Path.{sym}
 use lib.Seq.{set_out}
-use borrow.Author.Rules.{sfits_of}
+use borrow.Author.Rules.{rules}
 use Rattle.cash.specs.Buckets.{bump}
 use Rattle.cash.proofs.Loops.{stored, stored_fits}
 use Rattle.cash.proofs.add_at.Goals as goal
