@@ -22,8 +22,8 @@ command -v "$cc" >/dev/null || give_up "the compiler $cc is missing; Debian's pa
 
 need_archive() { # CRATE: its archive, made anew where there is none or a proved source is younger
     local made=target/staticlib/lib$1.a
-    if [ ! -f "$made" ] || [ -n "$(find crates crates.txt -name must-fail -prune -o -newer "$made" -print -quit)" ]; then
-        rt staticlib "$1" && touch "$made" || give_up "there is no $made"
+    if [ ! -f "$made" ] || [ -n "$(find crates.txt crates/*/* \( -name must-fail -o -name out \) -prune -o -newer "$made" -print -quit)" ]; then
+        bash host/archive "$1" || give_up "there is no $made"
     fi
 }
 need_archive "$crate"

@@ -115,8 +115,7 @@ fn part_of(file: &[u8], first: usize, end: usize) -> &[u8]
 }
 
 // The movements of statement k, in the rows of a lent table. On refusal no row changes.
-#[unsafe(no_mangle)]
-pub extern "C" fn movements(form: Form, file: &[u8], k: u64, table: &mut [Movement]) -> TableAnswer
+pub fn movements(form: Form, file: &[u8], k: u64, table: &mut [Movement]) -> TableAnswer
     ensures { Movements form file.now k table.old result table.new }
 {
     let p = plan_of(form, file, k, table.len());
