@@ -236,8 +236,7 @@ pub fn position(journal: &[u8], key: &[u8], first: u64, last: u64, table: &mut [
 }
 
 // The number of days filled, as one number.
-#[unsafe(no_mangle)]
-pub extern "C" fn crownhazel_position(
+pub fn crownhazel_position(
     journal: &[u8],
     key: &[u8],
     first: u64,
@@ -253,8 +252,7 @@ pub extern "C" fn crownhazel_position(
 }
 
 // The new balance of an entry, without the sound test.
-#[unsafe(no_mangle)]
-pub extern "C" fn crownhazel_balance(journal: &[u8], entry: u64) -> i64
+pub fn crownhazel_balance(journal: &[u8], entry: u64) -> i64
     ensures { Balance journal.now entry result }
 {
     let body = journal::body(journal, entry);
@@ -263,8 +261,7 @@ pub extern "C" fn crownhazel_balance(journal: &[u8], entry: u64) -> i64
 }
 
 // The day so many days after a day.
-#[unsafe(no_mangle)]
-pub extern "C" fn crownhazel_day(day: u64, after: u64) -> u64
+pub fn crownhazel_day(day: u64, after: u64) -> u64
     ensures { DayAfter day after result }
 {
     let n = ordinal_of(day);

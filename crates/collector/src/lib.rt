@@ -14,8 +14,7 @@ use records::{MOST_IN_FILE, RECORD};
 use statements::Checked;
 
 // The numbers of statements, movements and complements of a file.
-#[unsafe(no_mangle)]
-pub extern "C" fn crownhazel_check(line_end: u64, file: &[u8]) -> u64
+pub fn crownhazel_check(line_end: u64, file: &[u8]) -> u64
     ensures { CheckNumber line_end file.now result }
 {
     match statements::check(Form { line_end }, file) {
@@ -29,8 +28,7 @@ pub extern "C" fn crownhazel_check(line_end: u64, file: &[u8]) -> u64
 }
 
 // Blanks a buffer of a right length.
-#[unsafe(no_mangle)]
-pub extern "C" fn crownhazel_open(journal: &mut [u8]) -> u64
+pub fn crownhazel_open(journal: &mut [u8]) -> u64
     ensures { OpenNumber journal.old result journal.new }
 {
     match journal_layout::open(journal) {
@@ -40,8 +38,7 @@ pub extern "C" fn crownhazel_open(journal: &mut [u8]) -> u64
 }
 
 // How many statements of a file were stored, and how many were held.
-#[unsafe(no_mangle)]
-pub extern "C" fn crownhazel_deliver(journal: &mut [u8], line_end: u64, file: &[u8]) -> u64
+pub fn crownhazel_deliver(journal: &mut [u8], line_end: u64, file: &[u8]) -> u64
     ensures { DeliverNumber journal.old line_end file.now result journal.new }
 {
     match journal::deliver(journal, Form { line_end }, file) {
@@ -51,8 +48,7 @@ pub extern "C" fn crownhazel_deliver(journal: &mut [u8], line_end: u64, file: &[
 }
 
 // What a delivery now would say was expected, where it is refused with 22: the new date of the account's last statement, as the delivery then sees it. Else 0.
-#[unsafe(no_mangle)]
-pub extern "C" fn crownhazel_expected_date(journal: &[u8], line_end: u64, file: &[u8]) -> u64
+pub fn crownhazel_expected_date(journal: &[u8], line_end: u64, file: &[u8]) -> u64
     ensures { ExpectedDate journal.now line_end file.now result }
 {
     match journal::foretold(journal, Form { line_end }, file) {
@@ -62,8 +58,7 @@ pub extern "C" fn crownhazel_expected_date(journal: &[u8], line_end: u64, file: 
 }
 
 // Its new balance. Else 0.
-#[unsafe(no_mangle)]
-pub extern "C" fn crownhazel_expected_balance(journal: &[u8], line_end: u64, file: &[u8]) -> i64
+pub fn crownhazel_expected_balance(journal: &[u8], line_end: u64, file: &[u8]) -> i64
     ensures { ExpectedBalance journal.now line_end file.now result }
 {
     match journal::foretold(journal, Form { line_end }, file) {
@@ -73,8 +68,7 @@ pub extern "C" fn crownhazel_expected_balance(journal: &[u8], line_end: u64, fil
 }
 
 // The number of records of an entry's body, and its first body line.
-#[unsafe(no_mangle)]
-pub extern "C" fn crownhazel_entry(journal: &[u8], entry: u64) -> u64
+pub fn crownhazel_entry(journal: &[u8], entry: u64) -> u64
     ensures { EntryNumber journal.now entry result }
 {
     match journal_layout::entry_place(journal, entry) {
@@ -90,8 +84,7 @@ pub extern "C" fn crownhazel_entry(journal: &[u8], entry: u64) -> u64
 }
 
 // The entries used, the body lines used, and the body lines in all.
-#[unsafe(no_mangle)]
-pub extern "C" fn crownhazel_used(journal: &[u8]) -> u64
+pub fn crownhazel_used(journal: &[u8]) -> u64
     ensures { UsedNumber journal.now result }
 {
     match journal_layout::used(journal) {
@@ -105,8 +98,7 @@ pub extern "C" fn crownhazel_used(journal: &[u8]) -> u64
 }
 
 // The same numbers as of an entry, without the sound test, and the entry's row in the first bytes of `row`.
-#[unsafe(no_mangle)]
-pub extern "C" fn crownhazel_listed(journal: &[u8], entry: u64, row: &mut [u8]) -> u64
+pub fn crownhazel_listed(journal: &[u8], entry: u64, row: &mut [u8]) -> u64
     ensures { ListedNumber journal.now entry row.old result row.new }
 {
     match journal_layout::listed_place(journal, entry) {
@@ -126,8 +118,7 @@ pub extern "C" fn crownhazel_listed(journal: &[u8], entry: u64, row: &mut [u8]) 
 }
 
 // The number of records of a file of some length: the refusals 1 to 3, which its bytes have no say in.
-#[unsafe(no_mangle)]
-pub extern "C" fn crownhazel_length(line_end: u64, length: u64) -> u64
+pub fn crownhazel_length(line_end: u64, length: u64) -> u64
     ensures { LengthNumber line_end length result }
 {
     match framing::cut_length(
@@ -142,8 +133,7 @@ pub extern "C" fn crownhazel_length(line_end: u64, length: u64) -> u64
 }
 
 // On what day a file begins: the earliest old balance date of its statements, one number over a and b.
-#[unsafe(no_mangle)]
-pub extern "C" fn crownhazel_earliest(line_end: u64, file: &[u8]) -> u64
+pub fn crownhazel_earliest(line_end: u64, file: &[u8]) -> u64
     ensures { EarliestNumber line_end file.now result }
 {
     match contents::earliest(Form { line_end }, file) {

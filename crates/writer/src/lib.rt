@@ -280,8 +280,7 @@ fn put_rows(out: &mut [u8], bytes: usize, key: Key, table: &[Movement], compleme
 }
 
 // Writes a statement: head, a row for each movement, and the complements, 73 bytes each, one after another. No line ends. Bytes after the written ones are untouched.
-#[unsafe(no_mangle)]
-pub extern "C" fn write_statement(
+pub fn write_statement(
     head: Head,
     table: &[Movement],
     complements: &[u8],

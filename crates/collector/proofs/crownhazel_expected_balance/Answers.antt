@@ -10,5 +10,5 @@ returns-in-Done c = record { answer = ap (λ a. (paper_delivery a).expected_bala
 
 pub returns-in-Refused : goal.returns-in-Refused
 returns-in-Refused c =
-    let s : SFits w64 c.in-Refused.refusal.expected_balance = record { sfits = c.struct_told-1.given.1.1.1.0.1 } in
+    let s : SFits w64 c.in-Refused.refusal.expected_balance = search rules in
     record { answer = to_z-of_z s ∙ ap (λ a. (paper_delivery a).expected_balance) (sym c.in-Refused.is ∙ c.foretold.ensures.answer) }
