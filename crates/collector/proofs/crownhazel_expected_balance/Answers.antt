@@ -2,6 +2,7 @@ use mathlib.Core.Path.{sym, ap, ◌∙◌}
 use mir.Syntax.{w64}
 use mir.Val.{SFits}
 use mir.Facts.{to_z-of_z}
+use borrow.Author.Rules.{rules}
 use Rattle.journal.specs.Answers.{paper_delivery}
 use Rattle.collector.proofs.crownhazel_expected_balance.Goals as goal
 
