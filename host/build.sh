@@ -6,7 +6,7 @@ archive=target/staticlib/lib$crate.a
 
 command -v rt >/dev/null || give_up 'the command rt of the Rattle kit is not on the path'
 
-# The archive is x86-64. Elsewhere its programs are built by a cross compiler and run under the kit's emulator.
+# The archive is x86-64. Elsewhere its programs are built by a cross compiler and run under the emulator of a kit that has one.
 if [ "$(uname -m)" = x86_64 ]; then
     cc=gcc
     packages='gcc libc6-dev'
@@ -14,7 +14,7 @@ if [ "$(uname -m)" = x86_64 ]; then
 else
     cc=x86_64-linux-gnu-gcc
     packages='gcc-x86-64-linux-gnu libc6-dev-amd64-cross'
-    kit=$(dirname "$(dirname "$(rt doc)")")
+    kit=$(dirname "$(rt doc)")
     run=("$kit/on/$(uname -m)/toolchain/bin/qemu-x86_64" -L /usr/x86_64-linux-gnu)
     [ -x "${run[0]}" ] || give_up "the kit has no emulator ${run[0]}"
 fi

@@ -196,10 +196,8 @@ fn big_cases(rt: &impl Print, big: &mut [u8]) -> io::Result<()> {
     last_cases(rt, big)
 }
 
-// The large files are made in one buffer, blank at first.
-fn large(rt: &(impl Print + Alloc)) -> io::Result<()> {
-    let mut big = vec![in rt.alloc(); b' '; BIG]?;
-    big_cases(rt, &mut big)
+fn large(rt: &impl Print, big: &mut [u8; BIG]) -> io::Result<()> {
+    big_cases(rt, big)
 }
 
 fn main(rt: HostRuntime) -> io::Result<()> {
@@ -209,5 +207,6 @@ fn main(rt: HostRuntime) -> io::Result<()> {
             break;
         }
     }
-    large(&rt)
+    let mut big = [b' '; BIG];
+    large(&rt, &mut big)
 }

@@ -314,11 +314,14 @@ fn run_file(
     run(rt, buffer, series)
 }
 
-// The buffers of a journal and of a series are made here, and lent.
-fn run_in(rt: &(impl Print + AllocGlobal), file: impl Read + Drop) -> io::Result<()> {
-    let mut buffer = vec![in rt.alloc(); 0u8; MOST_JOURNAL]?;
+// The array is lent whole, and becomes a slice here.
+fn run_in(
+    rt: &(impl Print + AllocGlobal),
+    file: impl Read + Drop,
+    buffer: &mut [u8; MOST_JOURNAL],
+) -> io::Result<()> {
     let mut series = Vec::new(rt.alloc());
-    run_file(rt, file, &mut buffer, &mut series)
+    run_file(rt, file, buffer, &mut series)
 }
 
 // An argument by its number; empty where it is missing or too long.
@@ -349,7 +352,8 @@ fn kept(
     word(rt, b"== data/")?;
     word(rt, path.as_bytes())?;
     end_line(rt)?;
-    run_in(rt, file)?;
+    let mut buffer = [0u8; MOST_JOURNAL];
+    run_in(rt, file, &mut buffer)?;
     Ok(true)
 }
 
