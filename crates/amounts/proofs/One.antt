@@ -4,10 +4,10 @@ use mathlib.Core.Bool.{Bool}
 use mathlib.Core.List.{List}
 use Prim.Native.Nat.{ℕ}
 use lib.IntN.{ℤ}
+use Rattle.std.specs.Prelude.{Option}
 use Rattle.amounts.specs.Answers.{Read, HasAmount, Absolute, Put}
-use Rattle.amounts.specs.declared.Amount.{Amount}
 
-pub one_read : {s : List ℕ} {r q : Amount} → Read s r → Read s q → r ≡ q
+pub one_read : {s : List ℕ} {r q : Option ℤ} → Read s r → Read s q → r ≡ q
 one_read g h = g.answer ∙ sym h.answer
 
 pub one_has_amount : {v : ℤ} {r q : Bool} → HasAmount v r → HasAmount v q → r ≡ q

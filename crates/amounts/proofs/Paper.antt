@@ -8,10 +8,9 @@ use lib.IntN.{ℤ, pos}
 use Rattle.zones.specs.Choice.{pick}
 use Rattle.amounts.specs.Amounts.{is_amount, is_debit, magnitude, signed_of, amount_of, paper_amount}
 use Rattle.amounts.specs.Answers.{Read}
-use Rattle.amounts.specs.declared.Amount.{Amount}
-use Rattle.amounts.specs.declared.Amount.TheVariants.{Value, NoAmount}
+use Rattle.std.specs.Prelude.{Option, Some, None}
 
-module _ {s : List ℕ} {r : Amount} (g : Read s r) where
+module _ {s : List ℕ} {r : Option ℤ} (g : Read s r) where
   pub amount_refused : is_amount s ≡ false → paper_amount r ≡ (8, pos 0)
   unfolding amount_of
   amount_refused p = ap paper_amount g.answer ∙ rw p
@@ -20,12 +19,12 @@ module _ {s : List ℕ} {r : Amount} (g : Read s r) where
   unfolding amount_of
   amount_read p = ap paper_amount g.answer ∙ rw p
 
-abbrev amount_from : ℕ × ℤ → Amount
-amount_from p = pick (eqb p.0 0) (Value p.1) NoAmount
+abbrev amount_from : ℕ × ℤ → Option ℤ
+amount_from p = pick (eqb p.0 0) (Some p.1) None
 
-from_paper : (r : Amount) → amount_from (paper_amount r) ≡ r
-from_paper (Value v) = refl
-from_paper NoAmount = refl
+from_paper : (r : Option ℤ) → amount_from (paper_amount r) ≡ r
+from_paper (Some v) = refl
+from_paper None = refl
 
-pub paper_apart : {r q : Amount} → paper_amount r ≡ paper_amount q → r ≡ q
+pub paper_apart : {r q : Option ℤ} → paper_amount r ≡ paper_amount q → r ≡ q
 paper_apart {r} {q} p = sym (from_paper r) ∙ ap amount_from p ∙ from_paper q

@@ -18,7 +18,7 @@ use Rattle.zones.proofs.Copies.{same_equal}
 use Rattle.zones.proofs.Every.{every_append, class_permitted}
 use Rattle.zones.proofs.Decimal.{value_digits, digits_value, digits_all, length_digits, value_below}
 use Rattle.amounts.specs.Amounts.{sign_index, sign_of, is_debit, magnitude, signed_of, is_amount, amount_of, most_amount, has_amount, is_negative, sign_byte, signed_text, amount_text, debit_zero, credit_zero, as_written}
-use Rattle.amounts.specs.declared.Amount.TheVariants.{Value, NoAmount}
+use Rattle.std.specs.Prelude.{Some, None}
 use Rattle.amounts.proofs.Whole.{nat_abs_signed}
 use Rattle.amounts.proofs.Signs.{sign_byte_lem, byte_sign, sign_permitted}
 
@@ -60,7 +60,7 @@ written d m h =
       known = rw g s.known;
     }
 
-read_signed : (d : Bool) (m : ℕ) → m ≤ most_amount → amount_of (signed_text d m) ≡ Value (signed_of d m)
+read_signed : (d : Bool) (m : ℕ) → m ≤ most_amount → amount_of (signed_text d m) ≡ Some (signed_of d m)
 unfolding amount_of
 read_signed d m h =
     let w = written d m h in
@@ -71,16 +71,16 @@ signed_back (pos n) = refl
 signed_back (negsuc n) = refl
 
 -- what is written reads back
-pub read_text : (v : ℤ) → has_amount v ≡ true → amount_of (amount_text v) ≡ Value v
+pub read_text : (v : ℤ) → has_amount v ≡ true → amount_of (amount_text v) ≡ Some v
 unfolding has_amount
-read_text v h = read_signed (is_negative v) (nat_abs v) (leb-true _ _ h) ∙ ap Value (signed_back v)
+read_text v h = read_signed (is_negative v) (nat_abs v) (leb-true _ _ h) ∙ ap Some (signed_back v)
 
 -- an amount that was read: its bytes passed the test, and the value is theirs
-was_read : (s : List ℕ) (v : ℤ) → amount_of s ≡ Value v → (is_amount s ≡ true) × (v ≡ signed_of (is_debit s) (magnitude s))
+was_read : (s : List ℕ) (v : ℤ) → amount_of s ≡ Some v → (is_amount s ≡ true) × (v ≡ signed_of (is_debit s) (magnitude s))
 unfolding amount_of
 was_read s v = by (is_amount s) refl
   where
-    by : (t : Bool) → is_amount s ≡ t → pick t (Value (signed_of (is_debit s) (magnitude s))) NoAmount ≡ Value v → (is_amount s ≡ true) × (v ≡ signed_of (is_debit s) (magnitude s))
+    by : (t : Bool) → is_amount s ≡ t → pick t (Some (signed_of (is_debit s) (magnitude s))) None ≡ Some v → (is_amount s ≡ true) × (v ≡ signed_of (is_debit s) (magnitude s))
     by true e h = (e, cc)
     by false e h = let z : ◌≡◌ {A = ℕ} 0 1 = cc in absurd (omega arith)
 
@@ -162,14 +162,14 @@ bounded s p =
     omega (arith, b)
 
 -- what was read is written as it stood, but for a debit zero
-pub text_read : (s : List ℕ) (v : ℤ) → amount_of s ≡ Value v → amount_text v ≡ as_written s
+pub text_read : (s : List ℕ) (v : ℤ) → amount_of s ≡ Some v → amount_text v ≡ as_written s
 text_read s v h =
     let r = was_read s v h in
     let p = parts s r.0 in
     rw r.1 (text_signed (is_debit s) (magnitude s) (bounded s p) ∙ ap as_written (text_same s p))
 
 -- and is a value that has an amount
-pub read_has : (s : List ℕ) (v : ℤ) → amount_of s ≡ Value v → has_amount v ≡ true
+pub read_has : (s : List ℕ) (v : ℤ) → amount_of s ≡ Some v → has_amount v ≡ true
 unfolding has_amount
 read_has s v h =
     let r = was_read s v h in

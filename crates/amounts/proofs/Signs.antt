@@ -2,7 +2,10 @@
 use mathlib.Core.Path.{◌≡◌, refl, sym, ◌∙◌}
 use mathlib.Core.Bool.{Bool, true, false}
 use mathlib.Core.List.{List, [], ◌∷◌}
-use Prim.Native.Nat.{ℕ, suc, ◌+◌, ◌-◌, ◌%◌, ◌<◌}
+use Prim.Native.Nat.{ℕ, suc, ◌+◌, ◌-◌, ◌%◌, ◌<◌, ◌≤◌}
+use mathlib.Core.Logic.{◌⊎◌}
+use Rattle.std.proofs.lemmas.Bool.Decides.{nat_tests}
+use Rattle.std.specs.Prelude.{Some, None}
 use native.Mathlib.Nat.{not-suc-le-zero, le_of_suc-le-suc}
 use native.Mathlib.Omega.{arith}
 use lib.Dec.{leb, eqb}
@@ -12,16 +15,28 @@ use Rattle.zones.specs.Choice.{pick}
 use Rattle.zones.specs.Class.{permitted, between, in_class, every, all}
 use Rattle.zones.proofs.Every.{every_at}
 use Rattle.zones.proofs.Table.{tabulate_at}
-use Rattle.amounts.specs.Amounts.{signs, place_in, sign_index, sign_byte}
+use Rattle.amounts.specs.Amounts.{signs, place_in, sign_index, sign_place, sign_byte}
 
 -- the places by ranges, as the code tests them
-abbrev pub ranged : ℕ → ℕ
+abbrev ranged : ℕ → ℕ
 ranged b =
-    pick (eqb b 123) 0 (pick (eqb b 125) 10 (pick (between 65 73 b) (b - 64) (pick (between 74 82 b) (b - 63) 20)))
+    pick (eqb b 123) 0 (pick (eqb b 125) 10 (pick (between 65 73 b) (b - 65 + 1) (pick (between 74 82 b) (b - 74 + 11) 20)))
 
-pub sign_ranged : (b : ℕ) → b < 256 → sign_index b ≡ ranged b
+sign_ranged : (b : ℕ) → b < 256 → sign_index b ≡ ranged b
 unfolding sign_index
 sign_ranged b h = sym (tabulate_at sign_index 256 b h) ∙ tabulate_at ranged 256 b h
+
+module _ (b : ℕ) where
+  pub place_credit : 65 ≤ b → b < 74 → Some (b - 65 + 1) ≡ sign_place b
+  place_credit h l = grind (arith, nat_tests, sign_ranged)
+
+  pub place_debit : 74 ≤ b → b < 83 → Some (b - 74 + 11) ≡ sign_place b
+  place_debit h l = grind (arith, nat_tests, sign_ranged)
+
+  pub place_none : b < 256 → (b ≡ 123 → ⊥) → (b ≡ 125 → ⊥) → (b < 65) ⊎ (82 < b) → None ≡ sign_place b
+  place_none h m n o = grind (arith, nat_tests, sign_ranged)
+
+pub ruleset places = (place_credit, place_debit, place_none)
 
 -- the place of each sign character is its number
 index_sign : (k : ℕ) → k < 20 → sign_index (get_or signs k 0) ≡ k

@@ -1,12 +1,10 @@
 -- Amounts: thirteen digits, then a sign character.
-use Rattle.std.specs.Prelude.{ℕ, suc, ◌+◌, ◌*◌, ◌/◌, ◌%◌, Bool, true, false, ◌&&◌, List, [], ◌∷◌, ◌++◌, leb, ltb, eqb, length, get_or, take, ℤ, pos, negsuc, neg_ℤ, nat_abs}
+use Rattle.std.specs.Prelude.{ℕ, suc, ◌+◌, ◌*◌, ◌/◌, ◌%◌, Bool, true, false, ◌&&◌, List, [], ◌∷◌, ◌++◌, leb, ltb, eqb, length, get_or, take, ℤ, pos, negsuc, neg_ℤ, nat_abs, Option, Some, None}
 use Rattle.zones.specs.Choice.{pick}
 use Rattle.zones.specs.Class.{digit, all}
 use Rattle.zones.specs.Copy.{same_bytes}
 use Rattle.zones.specs.Number.{value_of, digits_of}
 use Rattle.zones.specs.Text.{bytes}
-use Rattle.amounts.specs.declared.Amount.{Amount}
-use Rattle.amounts.specs.declared.Amount.TheVariants.{Value, NoAmount}
 
 -- `{`, A to I for credit 0 to 9; `}`, J to R for debit 0 to 9
 abbrev pub signs : List ℕ
@@ -20,6 +18,9 @@ place_in (x ∷ xs) b = pick (eqb x b) 0 (suc (place_in xs b))
 -- the place of a sign character among the twenty
 unfoldable pub sign_index : ℕ → ℕ
 sign_index b = place_in signs b
+
+abbrev pub sign_place : ℕ → Option ℕ
+sign_place b = pick (ltb (sign_index b) 20) (Some (sign_index b)) None
 
 unfoldable pub sign_of : List ℕ → ℕ
 sign_of s = sign_index (get_or s 13 0)
@@ -42,13 +43,13 @@ abbrev pub is_amount : List ℕ → Bool
 is_amount s = (eqb (length s) 14 && all digit (take 13 s)) && ltb (sign_of s) 20
 
 -- the value of fourteen bytes, or that they are no amount
-unfoldable pub amount_of : List ℕ → Amount
-amount_of s = pick (is_amount s) (Value (signed_of (is_debit s) (magnitude s))) NoAmount
+unfoldable pub amount_of : List ℕ → Option ℤ
+amount_of s = pick (is_amount s) (Some (signed_of (is_debit s) (magnitude s))) None
 
 -- 8, or no refusal and the value
-abbrev pub paper_amount : Amount → ℕ × ℤ
-paper_amount (Value v) = (0, v)
-paper_amount NoAmount = (8, pos 0)
+abbrev pub paper_amount : Option ℤ → ℕ × ℤ
+paper_amount (Some v) = (0, v)
+paper_amount None = (8, pos 0)
 
 -- the largest amount, credit or debit
 abbrev pub most_amount : ℕ

@@ -1,10 +1,9 @@
 -- The contract of each public function: its one answer, and the one final content of what is lent.
-use Rattle.std.specs.Prelude.{◌≡◌, Bool, List, ℕ, ℤ, nat_abs}
+use Rattle.std.specs.Prelude.{◌≡◌, Bool, List, ℕ, ℤ, nat_abs, Option}
 use Rattle.amounts.specs.Amounts.{amount_of, has_amount, can_put, put_amount}
-use Rattle.amounts.specs.declared.Amount.{Amount}
 
 -- read
-pub record Read (s : List ℕ) (r : Amount) : Type 0 where
+pub record Read (s : List ℕ) (r : Option ℤ) : Type 0 where
   pub answer : r ≡ amount_of s
 
 -- has_amount

@@ -2,88 +2,59 @@
 #![tactic(auto)]
 
 ghost use Rattle.std.specs.Prelude.{◌≡◌, ◌^◌, ◌<◌, length};
-ghost use Rattle.amounts.specs.Amounts.{sign_index, signed_of, sign_byte, signed_text, is_negative};
+ghost use Rattle.amounts.specs.Amounts.{sign_place, signed_of, sign_byte, signed_text};
 ghost use Rattle.amounts.specs.Answers.{Read, HasAmount, Absolute, Put};
 
-#[derive(Clone, Copy)]
-pub enum Amount {
-    Value(i64),
-    NoAmount,
-}
-
-// The place of a sign character among `{`, A to I, `}`, J to R; 20 for any other byte.
-fn sign_index(b: u8) -> u8
-    ensures { result ≡ sign_index b }
+// The place of a sign character among `{`, A to I, `}`, J to R.
+#[tactic(auto, using(crate::proofs::Signs::places), unfolding(crate::specs::Amounts::sign_index))]
+fn sign_place(b: u8) -> Option<u8>
+    ensures { result ≡ sign_place b }
 {
-    if b == b'{' {
-        return 0;
+    match b {
+        b'{' => Some(0),
+        b'A'..=b'I' => Some(b - b'A' + 1),
+        b'}' => Some(10),
+        b'J'..=b'R' => Some(b - b'J' + 11),
+        _ => None,
     }
-    if b == b'}' {
-        return 10;
-    }
-    if (b'A' <= b) & (b <= b'I') {
-        return b - 64;
-    }
-    if (b'J' <= b) & (b <= b'R') {
-        return b - 63;
-    }
-    20
 }
 
 fn signed(debit: bool, m: u64) -> i64
     requires { m < 2 ^ 63 }
     ensures { result ≡ signed_of debit m }
 {
-    if debit {
-        return 0 - (m as i64);
-    }
-    m as i64
+    if debit { -(m as i64) } else { m as i64 }
 }
 
 // The amount in fourteen bytes. Other lengths and other bytes are none. A debit zero is zero.
-pub fn read(s: &[u8]) -> Amount
+#[tactic(auto, using(crate::proofs::Reading::reading))]
+pub fn read(s: &[u8]) -> Option<i64>
     ensures { Read s.now result }
 {
-    if s.len() != 14 {
-        return Amount::NoAmount;
+    if s.len() != 14 || !zones::digits(&s[0..13]) {
+        return None;
     }
-    if !zones::digits(&s[0..13]) {
-        return Amount::NoAmount;
-    }
-    let k = sign_index(s[13]);
-    let m = zones::number(&s[0..13]) * 10 + (k % 10) as u64;
-    if k < 20 {
-        return Amount::Value(signed(10 <= k, m));
-    }
-    Amount::NoAmount
+    let k = sign_place(s[13])?;
+    let m = zones::number(&s[0..13]) * 10 + u64::from(k % 10);
+    Some(signed(10 <= k, m))
 }
 
-fn is_negative(v: i64) -> bool
-    ensures { result ≡ is_negative v }
-{
-    v < 0
-}
-
-// The largest amount: fourteen digits; and the least.
-const MOST_AMOUNT: i64 = 99999999999999;
-
-const LEAST_AMOUNT: i64 = -MOST_AMOUNT;
+// The largest amount: fourteen digits.
+const MOST_AMOUNT: u64 = 99999999999999;
 
 // Whether an amount can have the value: fourteen digits at most, either way.
+#[tactic(auto, unfolding(crate::specs::Amounts::has_amount))]
 pub fn has_amount(v: i64) -> bool
     ensures { HasAmount v result }
 {
-    (LEAST_AMOUNT <= v) & (v <= MOST_AMOUNT)
+    absolute(v) <= MOST_AMOUNT
 }
 
-// A number without its sign. The least i64 is covered too: one is taken off before the sign turns.
+// A number without its sign.
 pub fn absolute(v: i64) -> u64
     ensures { Absolute v result }
 {
-    if v < 0 {
-        return (-1 - v) as u64 + 1;
-    }
-    v as u64
+    v.unsigned_abs()
 }
 
 fn sign_byte(debit: bool, d: usize) -> u8
@@ -91,12 +62,10 @@ fn sign_byte(debit: bool, d: usize) -> u8
     ensures { result ≡ sign_byte debit d }
 {
     let signs = b"{ABCDEFGHI}JKLMNOPQR";
-    if debit {
-        return signs[10 + d];
-    }
-    signs[d]
+    signs[if debit { 10 + d } else { d }]
 }
 
+#[tactic(auto, unfolding(crate::specs::Amounts::signed_text), using(crate::proofs::Reading::put_text))]
 fn put_signed(out: &mut [u8], debit: bool, m: u64)
     requires { length out.old ≡ 14 }
     ensures { out.new ≡ signed_text debit m }
@@ -106,15 +75,13 @@ fn put_signed(out: &mut [u8], debit: bool, m: u64)
 }
 
 // The fourteen bytes of a value, and whether they were written. A value that no amount has, or a part of another length, is refused and nothing changes.
+#[tactic(auto, unfolding(crate::specs::Amounts::put_amount))]
 pub fn put(out: &mut [u8], v: i64) -> bool
     ensures { Put v out.old result out.new }
 {
-    if out.len() != 14 {
+    if out.len() != 14 || !has_amount(v) {
         return false;
     }
-    if !has_amount(v) {
-        return false;
-    }
-    put_signed(out, is_negative(v), absolute(v));
+    put_signed(out, v < 0, absolute(v));
     true
 }

@@ -1,63 +1,27 @@
--- Two rows of records compared: what the loop keeps, and one law for each way out of a turn.
+-- Two rows of records compared piece by piece, and the last record of a part.
 use mathlib.Core.Path.{◌≡◌, refl, sym, ap, ◌∙◌}
-use mathlib.Core.Bool.{Bool, true, false, not, ◌&&◌}
+use mathlib.Core.Bool.{Bool, true, false, ◌&&◌}
 use mathlib.Core.List.{List, [], ◌∷◌}
-use Prim.Native.Nat.{ℕ, suc, ◌+◌, ◌-◌, ◌*◌, ◌/◌, ◌<◌, ◌≤◌}
-use native.Mathlib.Nat.{add-sub_cancel_left, div-mul-le_self}
+use Prim.Native.Nat.{ℕ, suc, ◌+◌, ◌-◌, ◌/◌, ◌<◌, ◌≤◌}
 use native.Mathlib.Omega.{arith}
-use lib.ListN.{length, take, drop}
-use lib.Seq.{take-take}
-use borrow.Author.Tests.{lt-ltb, le-ltb, not-true, not-false}
+use lib.ListN.{length, take}
+use borrow.Author.Tests.{lt-ltb, le-ltb}
+use Rattle.std.specs.List.{list_all, zip}
 use Rattle.framing.specs.declared.Form.{Form}
-use Rattle.framing.specs.Files.{line_end, width_of, chunks, pieces_of}
-use Rattle.framing.proofs.Cuts.{length_chunks}
+use Rattle.framing.specs.Files.{line_end, width_of, pieces_of}
+use Rattle.framing.proofs.Chunks.{whole_chunks, length_whole}
 use Rattle.records.specs.July.{record_size}
 use Rattle.contents.specs.Heads.{record_at_of}
-use Rattle.readers.proofs.Walk.{chunk, times}
 use Rattle.bodies.specs.Bodies.{same_record, same_rows, same_records, closing_in}
 
--- the record at a place, as the code cuts it
-abbrev pub record_in : ℕ → List ℕ → List ℕ
-record_in p b = take (p + record_size - p) (drop p b)
-
--- it is the record of the piece there
-pub record_of_piece : (w p : ℕ) (b : List ℕ) → record_size ≤ w → take record_size (take (p + w - p) (drop p b)) ≡ record_in p b
-record_of_piece w p b h = rw (add-sub_cancel_left p w, add-sub_cancel_left p record_size) (take-take record_size w (drop p b) h)
-
--- so many records of both from two places on
-pub record Room (v w : ℕ) (a b : List ℕ) (left p q : ℕ) : Type 0 where
-  pub first : p + left * v ≤ length a
-  pub second : q + left * w ≤ length b
-
-module _ (v w : ℕ) (a b : List ℕ) (whole : Bool) where
-  -- what is answered from here on is the whole answer
-  pub record Comparing (left p q : ℕ) : Type 0 where
-    pub room : Room v w a b left p q
-    pub rest : same_rows (chunks v left (drop p a)) (chunks w left (drop q b)) ≡ whole
-
-  module _ {left p q : ℕ} (g : Comparing left p q) (hv : record_size ≤ v) (hw : record_size ≤ w) where
-    step : {t : Bool} → 0 < left → t ≡ same_record (record_in p a) (record_in q b)
-        → (t && same_rows (chunks v (left - 1) (drop (p + v) a)) (chunks w (left - 1) (drop (q + w) b))) ≡ whole
-    unfolding same_rows
-    step h e = rw (chunk v p a left h, chunk w q b left h, record_of_piece v p a hv, record_of_piece w q b hw, ← e) at g.rest
-
-    -- two that differ
-    pub differs : {t : Bool} → 0 < left → t ≡ same_record (record_in p a) (record_in q b) → not t ≡ true → false ≡ whole
-    differs {t} h e n = rw (not-true t n) at (step h e)
-
-    -- two that are the same
-    pub goes_on : {t : Bool} → 0 < left → t ≡ same_record (record_in p a) (record_in q b) → not t ≡ false → Comparing (left - 1) (p + v) (q + w)
-    goes_on {t} h e n =
-        let i = g.room in
-        record {
-          room = record { first = omega (arith, times v left h, i.first); second = omega (arith, times w left h, i.second) };
-          rest = rw (not-false t n) at (step h e);
-        }
-
-    -- none is left
-    pub all_same : left ≤ 0 → true ≡ whole
-    unfolding same_rows chunks
-    all_same h = let z : left ≡ 0 = omega arith in rw z at g.rest
+-- rows of one length, compared piece by piece
+pub rows_in : (ps qs : List (List ℕ)) → length ps ≡ length qs
+    → list_all (λ p. same_record (take record_size p.0) (take record_size p.1)) (zip ps qs) ≡ same_rows ps qs
+unfolding same_rows
+rows_in [] [] h = refl
+rows_in [] (q ∷ qs) h = absurd (omega arith)
+rows_in (p ∷ ps) [] h = absurd (omega arith)
+rows_in (p ∷ ps) (q ∷ qs) h = rw (rows_in ps qs (omega arith))
 
 -- rows of other lengths are not the same
 other_rows : (ps qs : List (List ℕ)) → (length ps ≡ length qs → ⊥) → same_rows ps qs ≡ false
@@ -86,27 +50,20 @@ module _ (f : Form) (a : List ℕ) (g : Form) (b : List ℕ) where
     unfolding same_records
     known = rw (le-ltb 2 (line_end f) k, le-ltb 2 (line_end g) l)
 
-    pub other_count : (length b / (record_size + line_end g) ≡ length a / (record_size + line_end f) → ⊥) → false ≡ same_records f a g b
-    unfolding width_of
-    other_count n =
-        let v = record_size + line_end f in
-        let w = record_size + line_end g in
-        let x = length_chunks v (length a / v) a in
-        let y = length_chunks w (length b / w) b in
-        sym (known ∙ other_rows (chunks v (length a / v) a) (chunks w (length b / w) b) (λ e. n (omega arith)))
+    abbrev ps : List (List ℕ)
+    ps = whole_chunks (record_size + line_end f) a
 
-    pub compared : {t : Bool} → length b / (record_size + line_end g) ≡ length a / (record_size + line_end f)
-        → t ≡ same_rows (chunks (record_size + line_end f) (length a / (record_size + line_end f)) a) (chunks (record_size + line_end g) (length a / (record_size + line_end f)) b)
-        → t ≡ same_records f a g b
-    unfolding width_of
-    compared e h =
-        let v = record_size + line_end f in
-        let w = record_size + line_end g in
-        h ∙ ap (λ (n : ℕ). same_rows (chunks v (length a / v) a) (chunks w n b)) (sym e) ∙ sym known
+    abbrev qs : List (List ℕ)
+    qs = whole_chunks (record_size + line_end g) b
 
--- so many whole records lie in a part
-pub inside : (b : List ℕ) (w n : ℕ) → length b / w ≡ n → n * w ≤ length b
-inside b w n e = rw (← e) (div-mul-le_self (length b) w)
+    pub other_count : (length a / (record_size + line_end f) ≡ length b / (record_size + line_end g) → ⊥) → false ≡ same_records f a g b
+    unfolding width_of
+    other_count n = sym (known ∙ other_rows ps qs (λ e. n (omega (arith, e, length_whole (record_size + line_end f) a, length_whole (record_size + line_end g) b))))
+
+    pub compared : {t : Bool} → length a / (record_size + line_end f) ≡ length b / (record_size + line_end g)
+        → t ≡ list_all (λ p. same_record (take record_size p.0) (take record_size p.1)) (zip ps qs) → t ≡ same_records f a g b
+    unfolding width_of
+    compared e h = h ∙ rows_in ps qs (length_whole (record_size + line_end f) a ∙ e ∙ sym (length_whole (record_size + line_end g) b)) ∙ sym known
 
 -- the last record, at the code's returns
 module _ (f : Form) (b : List ℕ) where

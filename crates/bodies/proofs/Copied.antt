@@ -2,15 +2,16 @@
 use mathlib.Core.Path.{◌≡◌, refl, sym, ap, ◌∙◌}
 use mathlib.Core.List.{List, [], ◌∷◌, ◌++◌, append_assoc, append-nil}
 use Prim.Native.Nat.{ℕ, zero, suc, ◌+◌, ◌-◌, ◌*◌, ◌/◌, ◌<◌, ◌≤◌}
-use native.Mathlib.Nat.{add-sub_cancel_left, suc-mul, zero-mul, mul-le-mul_right, le_trans}
+use native.Mathlib.Nat.{add-sub_cancel_left, suc-mul, zero-mul, add-mul, le-div_iff_mul-le, div-eq_of_lt-le}
 use native.Mathlib.Numerals.{add-one}
 use native.Mathlib.Omega.{arith}
 use lib.ListN.{length, take, drop, length-append, length-drop}
-use lib.Seq.{take-take, take_at, drop_at, drop-drop, length-take-le}
+use lib.Seq.{take_at, drop_at, drop-drop, length-take-le}
 use borrow.Author.Tests.{lt-ltb, le-ltb}
 use borrow.Rule.Slice.PartMut.{put_mid}
 use Rattle.framing.specs.declared.Form.{Form}
 use Rattle.framing.specs.Files.{line_end, width_of, chunks}
+use Rattle.framing.proofs.Chunks.{whole_chunks}
 use Rattle.records.specs.July.{record_size}
 use Rattle.bodies.specs.Bodies.{kept, kept_rows, body_in, body_put}
 use Rattle.bodies.proofs.Ends.{length_kept}
@@ -38,55 +39,61 @@ length_rows w (suc i) b h l =
     length-append (kept (take record_size (take w b))) (kept_rows (chunks w i (drop w b)))
     ∙ omega (arith, k, length_rows w i (drop w b) h (omega (arith, length-drop w b)))
 
-module _ (w count : ℕ) (b dst : List ℕ) where
-  -- i records are copied
-  pub record Copying (i p : ℕ) (x : List ℕ) : Type 0 where
-    pub upto : i ≤ count
-    pub place : p ≡ i * w
-    pub same : length x ≡ length dst
-    pub content : x ≡ kept_rows (chunks w i b) ++ drop (record_size * i) dst
+module _ (w : ℕ) (b dst : List ℕ) where
+  -- n records are copied, and the pieces of `rest` are still to come
+  pub record Copying (n size : ℕ) (rest x : List ℕ) : Type 0 where
+    pub width : size ≡ w
+    pub left : rest ≡ drop (n * w) b
+    pub upto : n * w ≤ length b
+    pub content : x ≡ kept_rows (chunks w n b) ++ drop (record_size * n) dst
 
-  pub begins : Copying 0 0 dst
+  pub begins : {n size : ℕ} {rest : List ℕ} → n ≡ 0 → size ≡ w → rest ≡ b → Copying n size rest dst
   unfolding kept_rows chunks
-  begins = record { upto = omega arith; place = sym (zero-mul w); same = refl; content = refl }
+  begins {n} e h l = rw e (record { width = h; left = l ∙ rw (zero-mul w); upto = omega (arith, zero-mul w); content = refl })
 
-  module _ (h : record_size ≤ w) (l : count * w ≤ length b) (room : record_size * count ≤ length dst) {i p : ℕ} {x : List ℕ} (g : Copying i p x) where
-    -- as many whole records lie before the place
-    before : (i : ℕ) → i ≤ count → i * w ≤ length b
-    before i k = le_trans (mul-le-mul_right w k) l
+  module _ (h : record_size ≤ w) {n size : ℕ} {rest x : List ℕ} (g : Copying n size rest x) where
+    module _ (p other : List ℕ) (e : rest ≡ p ++ other) (l : length p ≡ size) where
+      -- one more piece lies in the part
+      fits : (n + 1) * w ≤ length b
+      fits = omega (arith, g.width, g.upto, ap length (sym g.left ∙ e), length-append p other, length-drop (n * w) b, add-mul n 1 w)
 
-    pub inside : i < count → p + w ≤ length b
-    inside k = let e = before (suc i) k in omega (arith, g.place, suc-mul i w)
+      -- there is room for one more
+      pub inside : length b / w ≤ length dst / record_size → record_size * n + record_size ≤ length dst
+      inside m =
+          let z : 0 < w = omega arith in
+          let q : n + 1 ≤ length b / w = (le-div_iff_mul-le z).1 fits in
+          omega arith
 
-    -- one more
-    pub goes_on : {r : List ℕ} → i < count → r ≡ kept (take (p + record_size - p) (drop p b))
-        → Copying (i + 1) (p + w) (put_mid (record_size * i) (record_size * i + record_size - record_size * i) x r)
-    unfolding kept_rows
-    goes_on {r} k e =
-        let K = kept_rows (chunks w i b) in
-        let m : length K ≡ record_size * i = length_rows w i b h (before i g.upto) in
-        let q : r ≡ kept (take record_size (take w (drop (i * w) b))) =
-        e ∙ rw (add-sub_cancel_left p record_size, g.place, take-take record_size w (drop (i * w) b) h) in
-        let D = drop (record_size * i) dst in
-        let z : record_size * (i + 1) ≡ record_size * i + record_size = omega arith in
-        let u : put_mid (record_size * i) record_size x r ≡ K ++ (r ++ drop (record_size * i + record_size) dst) =
-        rw (g.content, take_at K D (record_size * i) m, drop_at K D (record_size * i) m, drop-drop record_size (record_size * i) dst) in
-        let o : kept_rows (chunks w (i + 1) b) ≡ K ++ r =
-        rw (add-one i, chunks_snoc w i b)
-        (rows_append (chunks w i b) (take w (drop (i * w) b) ∷ []) ∙ ap (λ y. K ++ y) (append-nil (kept (take record_size (take w (drop (i * w) b)))) ∙ sym q)) in
-        let c : put_mid (record_size * i) record_size x r ≡ kept_rows (chunks w (i + 1) b) ++ drop (record_size * (i + 1)) dst =
-        u ∙ sym (append_assoc K r (drop (record_size * i + record_size) dst)) ∙ sym (rw (o, z)) in
-        rw (add-sub_cancel_left (record_size * i) record_size)
-        (record {
-          upto = omega arith;
-          place = rw (g.place, add-one i) (omega (arith, suc-mul i w));
-          same = ap length c ∙ length-append (kept_rows (chunks w (i + 1) b)) (drop (record_size * (i + 1)) dst)
-              ∙ omega (arith, length_rows w (i + 1) b h (before (i + 1) (omega arith)), length-drop (record_size * (i + 1)) dst);
-          content = c;
-        })
+      -- one more
+      pub goes_on : {i n' size' : ℕ} {r : List ℕ} → size' ≡ size → i ≡ n → n' ≡ n + 1 → r ≡ kept (take record_size p)
+          → Copying n' size' other (put_mid (record_size * i) (record_size * i + record_size - record_size * i) x r)
+      unfolding kept_rows
+      goes_on {r = r} s j m k =
+          let v : length p ≡ w = l ∙ g.width in
+          let f : drop (n * w) b ≡ p ++ other = sym g.left ∙ e in
+          let t : take w (drop (n * w) b) ≡ p = rw f (take_at p other w v) in
+          let y : (n + 1) * w ≡ n * w + w = omega (arith, add-mul n 1 w) in
+          let d : drop ((n + 1) * w) b ≡ other = rw (y, ← drop-drop w (n * w) b, f) (drop_at p other w v) in
+          let K = kept_rows (chunks w n b) in
+          let D = drop (record_size * n) dst in
+          let u : length K ≡ record_size * n = length_rows w n b h g.upto in
+          let o : kept_rows (chunks w (n + 1) b) ≡ K ++ r =
+          rw (add-one n, chunks_snoc w n b, t) (rows_append (chunks w n b) (p ∷ []) ∙ ap (λ q. K ++ q) (append-nil (kept (take record_size p)) ∙ sym k)) in
+          let z : record_size * (n + 1) ≡ record_size * n + record_size = omega arith in
+          rw (j, m, add-sub_cancel_left (record_size * n) record_size)
+          (record {
+            width = s ∙ g.width;
+            left = sym d;
+            upto = fits;
+            content =
+                rw (g.content, take_at K D (record_size * n) u, drop_at K D (record_size * n) u, drop-drop record_size (record_size * n) dst, o, z)
+                (sym (append_assoc K r (drop (record_size * n + record_size) dst)));
+          })
 
-    pub ends : count ≤ i → x ≡ kept_rows (chunks w count b) ++ drop (record_size * count) dst
-    ends k = let u = g.upto in let z : i ≡ count = omega arith in g.content ∙ rw z
+    pub ends : length rest < size → x ≡ kept_rows (whole_chunks w b) ++ drop (record_size * (length b / w)) dst
+    ends k =
+        let e : length b / w ≡ n = div-eq_of_lt-le w g.upto (omega (arith, g.width, ap length g.left, length-drop (n * w) b, add-mul n 1 w)) in
+        rw e g.content
 
 -- `put_body` at its returns
 module _ (f : Form) (b dst : List ℕ) where
@@ -102,7 +109,7 @@ module _ (f : Form) (b dst : List ℕ) where
         sym (rw (le-ltb 2 (line_end f) k, lt-ltb (length dst) (record_size * n) (omega arith)))
 
     pub body_copied : {x : List ℕ} → length b / (record_size + line_end f) ≤ length dst / record_size
-        → x ≡ kept_rows (chunks (record_size + line_end f) (length b / (record_size + line_end f)) b) ++ drop (record_size * (length b / (record_size + line_end f))) dst
+        → x ≡ kept_rows (whole_chunks (record_size + line_end f) b) ++ drop (record_size * (length b / (record_size + line_end f))) dst
         → x ≡ body_put f b dst
     unfolding body_put body_in width_of
     body_copied h e =

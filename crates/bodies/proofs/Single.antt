@@ -24,25 +24,27 @@ use Rattle.grammar.proofs.Trips.{one_records}
 use Rattle.records.specs.July.{record_size, most_in_statement, july, encode_record, no_debit_zero, coding_of, edition_of}
 use Rattle.records.proofs.Lawful.{lawful}
 use Rattle.records.proofs.Theorems.{unique, counts, reads, own_file, writable}
-use Rattle.statements.specs.declared.Checked.TheVariants as C
+use Rattle.std.specs.Prelude.{Ok, Err}
+use Rattle.framing.specs.declared.refusals.Refusal.{Refusal}
+use Rattle.statements.specs.declared.Counts.{Counts}
 use Rattle.statements.specs.Answers.{checked_of}
 use Rattle.bodies.specs.Bodies.{body_of, counts_one, single, statement_of}
 
 -- at the code's returns
-counted : (a : Answer) {s m c : ℕ} → C.Accepted s m c ≡ checked_of a → eqb s 1 ≡ counts_one a
+counted : (a : Answer) {n : Counts} → Ok n ≡ checked_of a → eqb n.statements 1 ≡ counts_one a
 counted (accepted x) e = cc
 counted (refused n r) e = absurd (let z : ◌≡◌ {A = ℕ} 0 1 = cc in omega arith)
 
-not_counted : (a : Answer) {n r : ℕ} → C.Refused n r ≡ checked_of a → counts_one a ≡ false
+not_counted : (a : Answer) {e : Refusal} → Err e ≡ checked_of a → counts_one a ≡ false
 not_counted (accepted x) e = absurd (let z : ◌≡◌ {A = ℕ} 0 1 = cc in omega arith)
 not_counted (refused n r) e = refl
 
 module _ (b : List ℕ) where
-  pub judged : {s m c : ℕ} {t : Bool} → C.Accepted s m c ≡ checked_of (check_of (coding_of plain) plain b) → t ≡ no_debit_zero (pieces (coding_of plain) plain b) → (eqb s 1 && t) ≡ single b
+  pub judged : {n : Counts} {t : Bool} → Ok n ≡ checked_of (check_of (coding_of plain) plain b) → t ≡ no_debit_zero (pieces (coding_of plain) plain b) → (eqb n.statements 1 && t) ≡ single b
   unfolding single
   judged e d = conj (counted (check_of (coding_of plain) plain b) e) d
 
-  pub refused_alone : {n r : ℕ} → C.Refused n r ≡ checked_of (check_of (coding_of plain) plain b) → false ≡ single b
+  pub refused_alone : {e : Refusal} → Err e ≡ checked_of (check_of (coding_of plain) plain b) → false ≡ single b
   unfolding single
   refused_alone e = sym (rw (not_counted (check_of (coding_of plain) plain b) e))
 

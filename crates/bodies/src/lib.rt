@@ -1,15 +1,14 @@
 // A statement as the journal keeps it: its records as the writer would write them, without line ends. Two statements are compared, and one is copied, record by record.
 #![tactic(auto)]
 
-ghost use Rattle.std.specs.Prelude.{◌≡◌, ◌*◌, ◌≤◌, length, drop, ◌++◌};
+ghost use Rattle.std.specs.Prelude.{◌≡◌, length};
 ghost use Rattle.records.specs.July.{record_size, has_debit_zero, no_debit_zero};
-ghost use Rattle.framing.specs.Files.{chunks, pieces_of, plain};
-ghost use Rattle.bodies.specs.Bodies.{kept, same_record, same_rows, kept_rows};
+ghost use Rattle.framing.specs.Files.{pieces_of, plain};
+ghost use Rattle.bodies.specs.Bodies.{kept, same_record};
 ghost use Rattle.bodies.specs.Answers.{IsSingle, SameRecords, ClosingOf, PutBody};
 
 use framing::{Form, PLAIN};
 use records::RECORD;
-use statements::Checked;
 
 // Whether a debit zero stands in 91-104 of a record that is no 05. Most records are told by their last digit alone.
 fn has_debit_zero(r: &[u8]) -> bool
@@ -26,17 +25,7 @@ fn has_debit_zero(r: &[u8]) -> bool
 fn no_debit_zero(body: &[u8]) -> bool
     ensures { result ≡ no_debit_zero (pieces_of record_size plain body.now) }
 {
-    let mut left = body.len() / RECORD;
-    let mut p: usize = 0;
-    while 0 < left {
-        let z = p + RECORD;
-        if has_debit_zero(&body[p..z]) {
-            return false;
-        }
-        p = z;
-        left -= 1;
-    }
-    true
+    body.chunks_exact(RECORD).all(|r| !has_debit_zero(r))
 }
 
 // Whether a body is accepted alone, is exactly one statement, and has no debit zero.
@@ -44,15 +33,8 @@ pub fn is_single(body: &[u8]) -> bool
     ensures { IsSingle body.now result }
 {
     match statements::check(PLAIN, body) {
-        Checked::Accepted {
-            statements,
-            movements: _,
-            complements: _,
-        } => (statements == 1) & no_debit_zero(body),
-        Checked::Refused {
-            number: _,
-            record: _,
-        } => false,
+        Ok(counts) => (counts.statements == 1) & no_debit_zero(body),
+        Err(_) => false,
     }
 }
 
@@ -85,27 +67,6 @@ fn same_record(a: &[u8], b: &[u8]) -> bool
     zones::same(&x, &y)
 }
 
-// So many records of one part and of another, v and w bytes from one to the next.
-fn same_rows(a: &[u8], v: usize, b: &[u8], w: usize, count: usize) -> bool
-    requires { (record_size ≤ v) × (record_size ≤ w) × (count * v ≤ length a.now) × (count * w ≤ length b.now) }
-    ensures { result ≡ same_rows (chunks v count a.now) (chunks w count b.now) }
-{
-    let mut left = count;
-    let mut p: usize = 0;
-    let mut q: usize = 0;
-    while 0 < left {
-        let y = p + RECORD;
-        let z = q + RECORD;
-        if !same_record(&a[p..y], &b[q..z]) {
-            return false;
-        }
-        p += v;
-        q += w;
-        left -= 1;
-    }
-    true
-}
-
 // Whether two parts hold the same records. Line ends do not count, nor does the sign of a zero.
 pub fn same_records(f: Form, a: &[u8], g: Form, b: &[u8]) -> bool
     ensures { SameRecords f a.now g b.now result }
@@ -116,13 +77,13 @@ pub fn same_records(f: Form, a: &[u8], g: Form, b: &[u8]) -> bool
     if 2 < g.line_end {
         return false;
     }
-    let v = RECORD + f.line_end as usize;
-    let w = RECORD + g.line_end as usize;
-    let count = a.len() / v;
-    if b.len() / w != count {
+    let rows = a.chunks_exact(RECORD + f.line_end as usize);
+    let others = b.chunks_exact(RECORD + g.line_end as usize);
+    if rows.len() != others.len() {
         return false;
     }
-    same_rows(a, v, b, w, count)
+    rows.zip(others)
+        .all(|(x, y)| same_record(&x[..RECORD], &y[..RECORD]))
 }
 
 // The last record of a part: the 07 of a statement.
@@ -139,23 +100,6 @@ pub fn closing_of(form: Form, part: &[u8]) -> &[u8]
     contents::record_at(part, part.len() - width)
 }
 
-// So many records of a part, width bytes from one to the next, into the first lines of a buffer.
-fn put_rows(dst: &mut [u8], part: &[u8], width: usize, count: usize)
-    requires { (record_size ≤ width) × (count * width ≤ length part.now) × (record_size * count ≤ length dst.old) }
-    ensures { dst.new ≡ kept_rows (chunks width count part.now) ++ drop (record_size * count) dst.old }
-{
-    let mut i: usize = 0;
-    let mut p: usize = 0;
-    while i < count {
-        let a = RECORD * i;
-        let z = a + RECORD;
-        let e = p + RECORD;
-        put_record(&mut dst[a..z], &part[p..e]);
-        p += width;
-        i += 1;
-    }
-}
-
 // The body of a part into the first lines of a buffer. Nothing is written where it is too short.
 pub fn put_body(dst: &mut [u8], form: Form, part: &[u8])
     ensures { PutBody form part.now dst.old dst.new }
@@ -163,10 +107,13 @@ pub fn put_body(dst: &mut [u8], form: Form, part: &[u8])
     if 2 < form.line_end {
         return;
     }
-    let width = RECORD + form.line_end as usize;
-    let count = part.len() / width;
-    if dst.len() / RECORD < count {
+    let pieces = part.chunks_exact(RECORD + form.line_end as usize);
+    if dst.len() / RECORD < pieces.len() {
         return;
     }
-    put_rows(dst, part, width, count);
+    // By index: the kit's proofs know no byte written through `chunks_exact_mut`.
+    for (i, piece) in pieces.enumerate() {
+        let a = RECORD * i;
+        put_record(&mut dst[a..a + RECORD], &piece[..RECORD]);
+    }
 }

@@ -1,11 +1,11 @@
 -- The loops over the table alone: what holds of it at each turn, and numbers as their bits.
-use mathlib.Core.Path.{◌≡◌, refl, sym, ◌∙◌}
+use mathlib.Core.Path.{◌≡◌, sym, ◌∙◌}
 use mathlib.Core.List.{List, [], ◌∷◌}
-use Prim.Native.Nat.{ℕ, zero, suc, ◌+◌, ◌-◌, ◌^◌, ◌<◌, ◌≤◌}
+use Prim.Native.Nat.{ℕ, zero, suc, ◌+◌, ◌^◌, ◌<◌, ◌≤◌}
 use native.Mathlib.Nat.{le_of_suc-le-suc, not-suc-le-zero}
 use native.Mathlib.Numerals.{add-one}
 use native.Mathlib.Omega.{arith}
-use lib.ListN.{length, get_or, set, take, drop, replicate, length-set, replicate-append-replicate}
+use lib.ListN.{length, get_or, set, take, drop, length-set}
 use lib.Seq.{take-suc, take_all, drop-cons, take-suc-set, drop-set-lt}
 use mir.Syntax.{w64}
 use mir.Val.{SFits, to_z, of_z}
@@ -13,30 +13,20 @@ use mir.Facts.{to_z-of_z}
 use lib.IntN.{ℤ, pos, nat_abs, ◌+ℤ◌}
 use Rattle.amounts.proofs.Whole.{fits_abs}
 use Rattle.framing.specs.Files.{All}
-use Rattle.cash.specs.Buckets.{running, bump, opened}
+use Rattle.cash.specs.Buckets.{running}
 use Rattle.cash.specs.Calls.{Runs}
 use Rattle.cash.proofs.Tables.{length_running}
 
 -- the first i places have their running sums, and the rest follow
 pub record Ran (t now : List ℤ) (sum : ℤ) (i : ℕ) : Type 0 where
   pub long : length now ≡ length t
-  pub within : i ≤ length now
   pub done : take i now ≡ take i (running (pos 0) t)
   pub rest : running sum (drop i now) ≡ drop i (running (pos 0) t)
-
-pub ran_start : (t : List ℤ) → Ran t t (pos 0) 0
-ran_start t = record { long = refl; within = omega arith; done = refl; rest = refl }
 
 all_at : (P : ℤ → Type 0) (d : ℤ) (xs : List ℤ) (i : ℕ) → All P xs → i < length xs → P (get_or xs i d)
 all_at P d [] i a h = absurd (not-suc-le-zero h)
 all_at P d (x ∷ xs) zero a h = a.0
 all_at P d (x ∷ xs) (suc i) a h = all_at P d xs i a.1 (le_of_suc-le-suc h)
-
-same_head : {x y : ℤ} {xs ys : List ℤ} → x ∷ xs ≡ y ∷ ys → x ≡ y
-same_head e = cc
-
-same_tail : {x y : ℤ} {xs ys : List ℤ} → x ∷ xs ≡ y ∷ ys → xs ≡ ys
-same_tail e = cc
 
 begun : (now : List ℤ) (i : ℕ) (sum : ℤ) → i < length now
     → (sum +ℤ get_or now i (pos 0)) ∷ running (sum +ℤ get_or now i (pos 0)) (drop (suc i) now) ≡ running sum (drop i now)
@@ -52,7 +42,7 @@ module _ {t now : List ℤ} {sum : ℤ} {i : ℕ} (r : Ran t now sum i) where
     both = begun now i sum h ∙ r.rest ∙ drop-cons (running (pos 0) t) i (pos 0) inside
 
     here : sum +ℤ get_or now i (pos 0) ≡ get_or (running (pos 0) t) i (pos 0)
-    here = same_head both
+    here = let e = both in cc
 
     ran_next : Ran t (set now i (sum +ℤ get_or now i (pos 0))) (sum +ℤ get_or now i (pos 0)) (i + 1)
     ran_next =
@@ -60,9 +50,8 @@ module _ {t now : List ℤ} {sum : ℤ} {i : ℕ} (r : Ran t now sum i) where
         rw (add-one i)
         (record {
           long = length-set now i v ∙ r.long;
-          within = rw (length-set now i v) h;
           done = take-suc-set now i v h ∙ rw (r.done, here) (sym (take-suc (running (pos 0) t) i (pos 0) inside));
-          rest = rw (drop-set-lt (suc i) now i v (omega arith)) (same_tail both);
+          rest = rw (drop-set-lt (suc i) now i v (omega arith)) (let e = both in cc);
         })
 
   pub ran_bound : Runs t → i < length now → nat_abs (sum +ℤ get_or now i (pos 0)) < 2 ^ 63
@@ -72,44 +61,6 @@ module _ {t now : List ℤ} {sum : ℤ} {i : ℕ} (r : Ran t now sum i) where
   ran_end h =
       sym (take_all i now h) ∙ r.done ∙ take_all i (running (pos 0) t) (omega (arith, length_running (pos 0) t, r.long))
 
--- a number stored as its bits
-pub stored : (t : List ℤ) (i : ℕ) (a : ℤ) → SFits w64 (get_or t i (pos 0)) → SFits w64 a → nat_abs (get_or t i (pos 0) +ℤ a) < 2 ^ 63
-    → set t i (to_z w64 (of_z w64 (to_z w64 (of_z w64 (get_or t i (pos 0))) +ℤ to_z w64 (of_z w64 a)))) ≡ bump t i a
-unfolding bump
-stored t i a f g h = rw (to_z-of_z f, to_z-of_z g, to_z-of_z (fits_abs (get_or t i (pos 0) +ℤ a) h))
-
 pub ran_again : {t now : List ℤ} {sum : ℤ} {i : ℕ} → Runs t → Ran t now sum i → i < length now → SFits w64 (get_or now i (pos 0))
     → Ran t (set now i (to_z w64 (of_z w64 (sum +ℤ to_z w64 (of_z w64 (get_or now i (pos 0))))))) (to_z w64 (of_z w64 (sum +ℤ to_z w64 (of_z w64 (get_or now i (pos 0)))))) (i + 1)
 ran_again {t} {now} {sum} {i} a r h f = rw (to_z-of_z f, to_z-of_z (fits_abs (sum +ℤ get_or now i (pos 0)) (ran_bound r a h))) (ran_next r h)
-
--- the first i places are zero
-pub record Zeroed (t now : List ℤ) (i : ℕ) : Type 0 where
-  pub long : length now ≡ length t
-  pub within : i ≤ length now
-  pub done : take i now ≡ replicate i (pos 0)
-
-pub zero_start : (t : List ℤ) → Zeroed t t 0
-zero_start t = record { long = refl; within = omega arith; done = refl }
-
-pub zero_again : {t now : List ℤ} {i : ℕ} → Zeroed t now i → i < length now → Zeroed t (set now i (pos 0)) (i + 1)
-zero_again {t} {now} {i} z h =
-    record {
-      long = length-set now i (pos 0) ∙ z.long;
-      within = rw (length-set now i (pos 0)) (omega arith);
-      done = rw (add-one i) (take-suc-set now i (pos 0) h ∙ rw z.done (replicate-append-replicate i 1 (pos 0) ∙ rw (add-one i)));
-    }
-
-first_set : (n : ℕ) (b : ℤ) → 0 < n → set (replicate n (pos 0)) 0 b ≡ opened b (n - 1)
-first_set zero b h = absurd (not-suc-le-zero h)
-first_set (suc n) b h = let e : suc n - 1 ≡ n = omega arith in rw e
-
-pub zero_end : {t now : List ℤ} {i : ℕ} → Zeroed t now i → 0 < length t → length now ≤ i → (b : ℤ) → set now 0 b ≡ opened b (length t - 1)
-zero_end {t} {now} {i} z h l b =
-    let e : i ≡ length t = omega (arith, z.within, z.long) in
-    let n : now ≡ replicate (length t) (pos 0) = sym (take_all i now l) ∙ z.done ∙ rw e in
-    rw n (first_set (length t) b h)
-
--- a number stored is one that fits
-pub stored_fits : (t : List ℤ) (i : ℕ) (a : ℤ) → SFits w64 (get_or t i (pos 0)) → SFits w64 a → nat_abs (get_or t i (pos 0) +ℤ a) < 2 ^ 63
-    → SFits w64 (to_z w64 (of_z w64 (get_or t i (pos 0))) +ℤ to_z w64 (of_z w64 a))
-stored_fits t i a f g h = rw (to_z-of_z f, to_z-of_z g) (fits_abs (get_or t i (pos 0) +ℤ a) h)

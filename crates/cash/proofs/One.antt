@@ -3,10 +3,11 @@ use mathlib.Core.Path.{◌≡◌, sym, ◌∙◌}
 use mathlib.Core.List.{List}
 use Prim.Native.Nat.{ℕ}
 use lib.IntN.{ℤ}
-use Rattle.cash.specs.declared.Outcome.{Outcome}
+use Rattle.std.specs.Prelude.{Result}
+use Rattle.framing.specs.declared.refusals.Refusal.{Refusal}
 use Rattle.cash.specs.Answers.{Positions, PositionNumber, Balance, DayAfter}
 
-pub one_position : {j x : List ℕ} {first last : ℕ} {t : List ℤ} {r q : Outcome} {u v : List ℤ} → Positions j x first last t r u → Positions j x first last t q v → (r ≡ q) × (u ≡ v)
+pub one_position : {j x : List ℕ} {first last : ℕ} {t : List ℤ} {r q : Result ℕ Refusal} {u v : List ℤ} → Positions j x first last t r u → Positions j x first last t q v → (r ≡ q) × (u ≡ v)
 one_position g h = (g.answer ∙ sym h.answer, g.content ∙ sym h.content)
 
 pub one_position_number : {j x : List ℕ} {first last : ℕ} {t : List ℤ} {r q : ℕ} {u v : List ℤ} → PositionNumber j x first last t r u → PositionNumber j x first last t q v

@@ -10,12 +10,13 @@ use Rattle.grammar.specs.Statements.{Statement}
 use Rattle.journal_layout.specs.Layout.{Journal}
 use Rattle.journal_layout.proofs.Exact.{journal_sound, journal_list}
 use Rattle.journal_layout.proofs.Paper.{not_sound}
-use Rattle.cash.specs.declared.Outcome.{Outcome}
+use Rattle.std.specs.Prelude.{Result}
+use Rattle.framing.specs.declared.refusals.Refusal.{Refusal}
 use Rattle.cash.specs.Spans.{span_days, no_span}
 use Rattle.cash.specs.Positions.{no_account, position_of}
 use Rattle.cash.specs.Answers.{paper_position, Positions}
 
-module _ {j x : List ℕ} {first last : ℕ} {t : List ℤ} {r : Outcome} {t' : List ℤ} (a : Positions j x first last t r t') where
+module _ {j x : List ℕ} {first last : ℕ} {t : List ℤ} {r : Result ℕ Refusal} {t' : List ℤ} (a : Positions j x first last t r t') where
   pub position_unsound : ((ss : List Statement) → Journal j ss → ⊥) → paper_position r ≡ record { number = 21; at = 0; days = 0 }
   unfolding position_of
   position_unsound n = ap paper_position a.answer ∙ rw (not_sound n)

@@ -10,11 +10,15 @@ use lib.ListN.{length, get_or, drop, length-map, get_or-append}
 use lib.Seq.{drop_at}
 use lib.IntN.{ℤ, pos, nat_abs, ◌-ℤ◌}
 use borrow.Author.Tests.{eq-eqb, eqb-true, lt-ltb}
+use Rattle.std.specs.Prelude.{Ok, Err}
 use Rattle.zones.specs.Choice.{pick}
 use Rattle.dates.specs.Days.{is_day}
 use Rattle.dates.specs.Ordinals.{all_days, last_day, ordinal_of, next_day, day_after, of_ordinal}
 use Rattle.dates.proofs.Ordinals.{last_day_lem as last_of_all, last_ordinal, ordinal_below, ordinal_order, ordinal_of_lem, of_ordinal_lem, of_ordinal_day, not_last}
 use Rattle.framing.specs.Files.{All, width_of, plain}
+use Rattle.framing.specs.Refusals.{refusal_by}
+use Rattle.framing.specs.declared.refusals.Reason.TheVariants.{UnsoundJournal, NoSpan, NoSuchEntry, ShortTable}
+use Rattle.framing.specs.declared.refusals.Refusal.{Refusal}
 use Rattle.grammar.specs.declared.Key.{Key}
 use Rattle.grammar.specs.Statements.{Statement}
 use Rattle.grammar.specs.Parts.{no_statement}
@@ -31,17 +35,15 @@ use Rattle.journal.specs.Newest.{key_size, key_from}
 use Rattle.journal.specs.Holdings.{body_in}
 use Rattle.journal.specs.Promises.{Promise}
 use Rattle.journal.proofs.Promises.{promise}
-use Rattle.cash.specs.declared.Outcome.TheVariants.{Filled, Refused}
 use Rattle.cash.specs.Value.{movements_of, first_balance, value_at, balance_at, sum_on}
 use Rattle.cash.specs.Spans.{span_days, no_span, days_from, later_day}
 use Rattle.cash.specs.Positions.{is_none, no_account, position_of, amounts_of, table_of, balance_in}
-use Rattle.cash.specs.Calls.{span_of}
 use Rattle.cash.specs.Answers.{Positions}
 use Rattle.cash.proofs.Group.{less}
 use Rattle.cash.proofs.Rows.{no_movement_lem}
 use Rattle.cash.proofs.Spans.{next_day_amount, day_at}
 use Rattle.cash.proofs.Account.{account_days, account_fits, account_last}
-use Rattle.cash.proofs.Asking.{Spanned, spanned, not_spanned}
+use Rattle.cash.proofs.Asking.{Spanned, spanned}
 
 -- ---- an account of which a statement is held
 
@@ -88,24 +90,20 @@ some_first : (k : Key) (ss l : List Statement) → of_account k ss ≡ l → is_
 some_first k ss [] e h = absurd (clash refl h)
 some_first k ss (s ∷ r) e h = record { first = s; rest = r; list = e }
 
-span_by : (first last : ℕ) → no_span first last ≡ false → Spanned first last (span_days first last)
-unfolding span_of
-span_by first last h = spanned first last (span_days first last) (sym (rw h)) (λ z. clash (not_spanned first last (sym z ∙ sym (rw h))) h)
-
-pub answer_says : (j x : List ℕ) (first last room : ℕ) {n : ℕ} → Filled n ≡ position_of j x first last room → Answered j x first last n
+pub answer_says : (j x : List ℕ) (first last room : ℕ) {n : ℕ} → Ok n ≡ position_of j x first last room → Answered j x first last n
 unfolding position_of no_account
 answer_says j x first last room {n} e =
     by (sound_in j) refl (no_span first last) refl (eqb (length x) key_size) refl (is_none (of_account (key_from x) (held_of j))) refl (ltb room (span_days first last)) e
   where
     by : (a : Bool) → sound_in j ≡ a → (b : Bool) → no_span first last ≡ b → (c : Bool) → eqb (length x) key_size ≡ c
         → (d : Bool) → is_none (of_account (key_from x) (held_of j)) ≡ d → (f : Bool)
-        → Filled n ≡ pick a (pick b (Refused 27 0) (pick (not c || d) (Refused 25 0) (pick f (Refused 18 0) (Filled (span_days first last))))) (Refused 21 0)
+        → Ok n ≡ pick a (pick b (Err (refusal_by NoSpan 0)) (pick (not c || d) (Err (refusal_by NoSuchEntry 0)) (pick f (Err (refusal_by ShortTable 0)) (Ok (span_days first last))))) (Err (refusal_by UnsoundJournal 0))
         → Answered j x first last n
     by true p false q true r false s false z =
         let m : n ≡ span_days first last = cc in
         record {
           sound = p;
-          span = rw m (span_by first last q);
+          span = rw m (spanned first last q);
           size = eqb-true (length x) key_size r;
           account = some_first (key_from x) (held_of j) (of_account (key_from x) (held_of j)) refl s;
         }
@@ -153,7 +151,7 @@ map_at f (x ∷ l) (suc i) h = map_at f l i (le_of_suc-le-suc h)
 day_there : (first n i : ℕ) → is_day first ≡ true → get_or (days_from first n) i 0 ≡ later_day first i → (f : ℕ → ℤ) → i < n → get_or (map f (days_from first n)) i (pos 0) ≡ f (later_day first i)
 day_there first n i h e f l = map_at f (days_from first n) i (omega (arith, l, length_days first n)) ∙ ap f e
 
-module _ {j x : List ℕ} {first last : ℕ} {t : List ℤ} {n : ℕ} {t' : List ℤ} (g : Positions j x first last t (Filled n) t') where
+module _ {j x : List ℕ} {first last : ℕ} {t : List ℤ} {n : ℕ} {t' : List ℤ} (g : Positions j x first last t (Ok n) t') where
   abbrev pub says : Answered j x first last n
   says = answer_says j x first last (length t) g.answer
 
@@ -206,7 +204,7 @@ module _ {j x : List ℕ} {first last : ℕ} {t : List ℤ} {n : ℕ} {t' : List
   rest_untouched = ap (drop n) table_is ∙ drop_at (amounts_of (key_from x) (held_of j) first n) (drop n t) n length_amounts
 
 -- a refusal touches nothing
-pub refused_untouched : {j x : List ℕ} {first last : ℕ} {t : List ℤ} {m r : ℕ} {t' : List ℤ} → Positions j x first last t (Refused m r) t' → t' ≡ t
+pub refused_untouched : {j x : List ℕ} {first last : ℕ} {t : List ℤ} {e : Refusal} {t' : List ℤ} → Positions j x first last t (Err e) t' → t' ≡ t
 unfolding table_of
 refused_untouched g = g.content ∙ rw (← g.answer)
 

@@ -1,8 +1,8 @@
 -- The contract of each public function: its one answer, the one final content of the lent table, and the answer as the paper gives it.
-use Rattle.std.specs.Prelude.{◌≡◌, List, ℕ, length, ℤ}
+use Rattle.std.specs.Prelude.{◌≡◌, List, ℕ, length, ℤ, Result, Ok, Err}
+use Rattle.framing.specs.Refusals.{reason_number}
+use Rattle.framing.specs.declared.refusals.Refusal.{Refusal}
 use Rattle.packing.specs.Packing.{a_in, packed, refusal_in, record_in, value_or_zero}
-use Rattle.cash.specs.declared.Outcome.{Outcome}
-use Rattle.cash.specs.declared.Outcome.TheVariants.{Filled, Refused}
 use Rattle.cash.specs.Spans.{later_day}
 use Rattle.cash.specs.Positions.{position_of, table_of, balance_in}
 
@@ -12,9 +12,9 @@ pub record PaperPosition : Type 0 where
   pub at : ℕ
   pub days : ℕ
 
-abbrev pub paper_position : Outcome → PaperPosition
-paper_position (Filled n) = record { number = 0; at = 0; days = n }
-paper_position (Refused n r) = record { number = n; at = r; days = 0 }
+abbrev pub paper_position : Result ℕ Refusal → PaperPosition
+paper_position (Ok n) = record { number = 0; at = 0; days = n }
+paper_position (Err e) = record { number = reason_number e.reason; at = e.«record»; days = 0 }
 
 -- as one number: a is the number of days
 abbrev pub packed_position : PaperPosition → ℕ
@@ -25,7 +25,7 @@ abbrev pub paper_position_in : ℕ → PaperPosition
 paper_position_in n = record { number = refusal_in n; at = record_in n; days = value_or_zero n (a_in n) }
 
 -- position
-pub record Positions (j x : List ℕ) (first last : ℕ) (t : List ℤ) (r : Outcome) (t' : List ℤ) : Type 0 where
+pub record Positions (j x : List ℕ) (first last : ℕ) (t : List ℤ) (r : Result ℕ Refusal) (t' : List ℤ) : Type 0 where
   pub answer : r ≡ position_of j x first last (length t)
   pub content : t' ≡ table_of j x first last t
 

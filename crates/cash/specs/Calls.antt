@@ -2,21 +2,23 @@
 use Rattle.std.specs.Prelude.{◌≡◌, true, List, [], ◌∷◌, ◌++◌, map, ℕ, zero, suc, ◌+◌, ◌-◌, ◌^◌, ◌<◌, length, get_or, ℤ, pos, nat_abs, ◌+ℤ◌}
 use Rattle.zones.specs.Choice.{pick}
 use Rattle.framing.specs.Files.{All, plain}
+use Rattle.dates.specs.Ordinals.{ordinal_of}
 use Rattle.grammar.specs.Statements.{Statement}
 use Rattle.grammar.specs.Files.{Reads}
 use Rattle.records.specs.July.{coding_of}
 use Rattle.fields.specs.declared.Valued.{Valued}
 use Rattle.journal_layout.specs.Chains.{of_account}
-use Rattle.journal_layout.specs.Test.{sound_in, held_of}
+use Rattle.journal_layout.specs.Test.{held_of}
 use Rattle.journal.specs.Newest.{key_size, key_from}
 use Rattle.journal.specs.Holdings.{body_in, of_account_in}
 use Rattle.cash.specs.Value.{movements_of}
-use Rattle.cash.specs.Spans.{no_span, span_days}
+use Rattle.cash.specs.declared.Span.{Span}
+use Rattle.cash.specs.Spans.{span_days}
 use Rattle.cash.specs.Buckets.{dated, dated_in, running, filled}
 
--- the number of days; 0 for 27
-unfoldable pub span_of : (first last : ℕ) → ℕ
-span_of first last = pick (no_span first last) 0 (span_days first last)
+-- the span from one day to another
+abbrev pub span_from : (first last : ℕ) → Span
+span_from first last = record { from = ordinal_of first; days = span_days first last }
 
 -- the number of an account's first entry among n from entry e on, which counts from 0; 0 where there is none
 unfoldable pub first_from : (n e : ℕ) → (j x : List ℕ) → ℕ
@@ -41,15 +43,9 @@ pub record Entering (t : List ℤ) (first : ℕ) (x b : List ℕ) : Type 0 where
   pub reads : Reads (coding_of plain) plain b (one ∷ [])
   pub room : of_account_in x b ≡ true → Room t first (dated_in one)
 
--- a sound journal that holds so many statements, and an account of it
-pub record Held (j : List ℕ) (count : ℕ) (x : List ℕ) : Type 0 where
-  pub sound : sound_in j ≡ true
-  pub many : count ≡ length (held_of j)
-  pub key : length x ≡ key_size
-
 -- the movements of an account
-pub record Filling (t : List ℤ) (first : ℕ) (j : List ℕ) (count : ℕ) (x : List ℕ) : Type 0 where
-  pub held : Held j count x
+pub record Filling (t : List ℤ) (first : ℕ) (j x : List ℕ) : Type 0 where
+  pub key : length x ≡ key_size
   pub room : Room t first (map dated (movements_of (key_from x) (held_of j)))
 
 -- every running sum fits an i64
@@ -57,8 +53,8 @@ abbrev pub Runs : List ℤ → Type 0
 Runs t = All (λ (z : ℤ). nat_abs z < 2 ^ 63) (running (pos 0) t)
 
 -- an account with its first statement
-pub record Opening (b : ℤ) (j : List ℕ) (count : ℕ) (x : List ℕ) : Type 0 where
-  pub held : Held j count x
+pub record Opening (b : ℤ) (j x : List ℕ) : Type 0 where
+  pub key : length x ≡ key_size
   pub first : Statement
   pub rest : List Statement
   pub list : of_account (key_from x) (held_of j) ≡ first ∷ rest

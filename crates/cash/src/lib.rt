@@ -1,10 +1,12 @@
 // The cash desk: the balance in value of an account at the end of each day of a span, on what the journal promises.
 #![tactic(auto)]
 
-ghost use Rattle.std.specs.Prelude.{◌≡◌, true, ◌∷◌, [], map, ◌-◌, ◌^◌, ◌<◌, length, get_or, pos, nat_abs, ◌+ℤ◌};
+ghost use Rattle.std.specs.Prelude.{◌≡◌, true, false, ◌∷◌, [], map, ◌-◌, ◌^◌, ◌<◌, length, get_or, pos, nat_abs, ◌+ℤ◌, SomeIff, unwrap_or};
+ghost use Rattle.packing.specs.Answers.{Refuses};
 ghost use Rattle.framing.specs.Files.{plain};
+ghost use Rattle.framing.specs.Refusals.{reason_number};
 ghost use Rattle.zones.specs.Choice.{pick};
-ghost use Rattle.dates.specs.Ordinals.{ordinal_of};
+ghost use Rattle.dates.specs.Ordinals.{all_days, ordinal_of};
 ghost use Rattle.grammar.specs.Statements.{Statement};
 ghost use Rattle.grammar.specs.Files.{Reads};
 ghost use Rattle.records.specs.July.{coding_of};
@@ -13,82 +15,90 @@ ghost use Rattle.contents.specs.Heads.{record_at_of};
 ghost use Rattle.journal_layout.specs.Test.{sound_in, held_of};
 ghost use Rattle.journal.specs.Newest.{key_from};
 ghost use Rattle.journal.specs.Holdings.{body_in, of_account_in};
-ghost use Rattle.cash.specs.declared.Outcome.TheVariants.{Refused};
 ghost use Rattle.cash.specs.Value.{movements_of};
 ghost use Rattle.cash.specs.Buckets.{dated, dated_in, row_of, bump, filled, running, opened};
-ghost use Rattle.cash.specs.Calls.{span_of, first_from, Adding, Entering, Filling, Runs, Opening};
+ghost use Rattle.cash.specs.Spans.{no_span, later_day};
+ghost use Rattle.cash.specs.Calls.{span_from, first_from, Adding, Entering, Filling, Runs, Opening};
 ghost use Rattle.cash.specs.Answers.{Positions, PositionNumber, Balance, DayAfter};
 
-use dates::{ALL_DAYS, LAST_DAY};
-use framing::PLAIN;
-use journal::Holding;
+use dates::ALL_DAYS;
+use fields::Valued;
+use framing::{PLAIN, Reason, Refusal};
 use records::RECORD;
 
 // Days of the longest span.
-const MOST_DAYS: u32 = 400;
+const MOST_DAYS: usize = 400;
 
-// How many days were filled; or a refusal's number and record.
+// The ordinal of a span's first day, and its days, both ends counted.
 #[derive(Clone, Copy)]
-pub enum Outcome {
-    Filled { days: u64 },
-    Refused { number: u64, record: u64 },
+struct Span {
+    from: u32,
+    days: usize,
 }
 
-// An amount added at a place of the table; nothing past its end.
-fn add_at(table: &mut [i64], i: usize, a: i64)
-    requires { i < length table.old → nat_abs (get_or table.old i (pos 0) +ℤ a) < 2 ^ 63 }
-    ensures { table.new ≡ bump table.old i a }
-{
-    if i < table.len() {
-        table[i] = table[i] + a;
+// An account's ledger: a sound journal that holds so many statements, and the account's key.
+#[derive(Clone, Copy)]
+struct Ledger<'a> {
+    journal: &'a [u8],
+    count: u64,
+    key: &'a [u8],
+    ghost sound: { sound_in journal.now ≡ true },
+    ghost many: { count ≡ length (held_of journal.now) },
+}
+
+// Amounts of days, from the day of an ordinal on.
+#[derive(Drop)]
+struct Days<'a> {
+    first: u32,
+    table: &'a mut [i64],
+}
+
+impl Days<'_> {
+    // The place of a day; days before the first have its place.
+    fn place(&self, day: u32) -> usize
+        ensures { result ≡ day - self.now.first }
+    {
+        day.saturating_sub(self.first) as usize
     }
-}
 
-// The place of a day in a table; days before the table's first have its place.
-fn place(first: u32, day: u32) -> usize
-    ensures { result ≡ day - first }
-{
-    if day < first {
-        0
-    } else {
-        (day - first) as usize
+    // A movement at its day; nothing past the last. A number of no day lies past every day.
+    #[tactic(auto, using(dates::proofs::Calendar::ordinal_or, std::proofs::lemmas::List::set_past), unfolding(crate::specs::Buckets::bump))]
+    fn add(&mut self, m: Valued)
+        requires { let i = ordinal_of m.value - self.old.first in i < length self.old.table.now → nat_abs (get_or self.old.table.now i (pos 0) +ℤ m.amount) < 2 ^ 63 }
+        ensures table { self.new.table.now ≡ bump self.old.table.now (ordinal_of m.value - self.old.first) m.amount }
+        ensures first { self.new.first ≡ self.old.first }
+        ensures same_table { self.new.table.ghost_name ≡ self.old.table.ghost_name }
+    {
+        let i = self.place(dates::ordinal(m.value).unwrap_or(ALL_DAYS));
+        if i < self.table.len() {
+            self.table[i] += m.amount;
+        }
     }
-}
 
-// Every movement of a body, at its day. The last record is the 07; before it stand movements, one after another.
-fn add_body(table: &mut [i64], first: u32, body: &[u8])
-    requires { Adding table.old first body.now }
-    ensures { (s : Statement) → Reads (coding_of plain) plain body.now (s ∷ []) → table.new ≡ filled first table.old (dated_in s) }
-{
-    let mut at: usize = RECORD;
-    while at + RECORD < body.len() {
-        let step = readers::movement_step(body, PLAIN, at);
-        let m = fields::valued_at(contents::record_at(body, at));
-        let i = place(first, dates::ordinal(m.value));
-        add_at(table, i, m.amount);
-        at = step.next;
+    // Every movement of a body. They stand behind the 01, one after another; at the 07 there is none. A `while let`: an iterator of the movements would need a type with ghost members and laws, for the one line that moves on.
+    fn add_body(&mut self, body: &[u8])
+        requires { Adding self.old.table.now self.old.first body.now }
+        ensures table { (s : Statement) → Reads (coding_of plain) plain body.now (s ∷ []) → self.new.table.now ≡ filled self.old.first self.old.table.now (dated_in s) }
+        ensures first { self.new.first ≡ self.old.first }
+        ensures same_table { self.new.table.ghost_name ≡ self.old.table.ghost_name }
+    {
+        let mut at: usize = RECORD;
+        while let Some(step) = readers::movement_step(body, PLAIN, at) {
+            self.add(fields::valued_at(contents::record_at(body, at)));
+            at = step.next;
+        }
     }
-}
 
-// The same where the body is the account's, else nothing.
-fn add_entry(table: &mut [i64], first: u32, key: &[u8], body: &[u8])
-    requires { Entering table.old first key.now body.now }
-    ensures { (s : Statement) → Reads (coding_of plain) plain body.now (s ∷ []) → table.new ≡ pick (of_account_in key.now body.now) (filled first table.old (dated_in s)) table.old }
-{
-    if journal::of_account(key, body) {
-        add_body(table, first, body);
-    }
-}
-
-// Every movement of an account, at its day.
-fn fill(table: &mut [i64], first: u32, journal: &[u8], count: u64, key: &[u8])
-    requires { Filling table.old first journal.now count key.now }
-    ensures { table.new ≡ filled first table.old (map dated (movements_of (key_from key.now) (held_of journal.now))) }
-{
-    let mut e: u64 = 0;
-    while e < count {
-        add_entry(table, first, key, journal::body(journal, e + 1));
-        e += 1;
+    // The same where the body is the account's, else nothing.
+    fn add_entry(&mut self, key: &[u8], body: &[u8])
+        requires { Entering self.old.table.now self.old.first key.now body.now }
+        ensures table { (s : Statement) → Reads (coding_of plain) plain body.now (s ∷ []) → self.new.table.now ≡ pick (of_account_in key.now body.now) (filled self.old.first self.old.table.now (dated_in s)) self.old.table.now }
+        ensures first { self.new.first ≡ self.old.first }
+        ensures same_table { self.new.table.ghost_name ≡ self.old.table.ghost_name }
+    {
+        if journal::of_account(key, body) {
+            self.add_body(body);
+        }
     }
 }
 
@@ -98,11 +108,9 @@ fn run(table: &mut [i64])
     ensures { table.new ≡ running (pos 0) table.old }
 {
     let mut sum: i64 = 0;
-    let mut i = 0;
-    while i < table.len() {
-        sum = sum + table[i];
-        table[i] = sum;
-        i += 1;
+    for x in table.iter_mut() {
+        sum += *x;
+        *x = sum;
     }
 }
 
@@ -111,68 +119,31 @@ fn begin(table: &mut [i64], balance: i64)
     requires { 0 < length table.old }
     ensures { table.new ≡ opened balance (length table.old - 1) }
 {
-    let mut i = 0;
-    while i < table.len() {
-        table[i] = 0;
-        i += 1;
-    }
+    table.fill(0);
     table[0] = balance;
 }
 
-// The amounts of an account for as many days as the table has, from an ordinal on.
-fn row(table: &mut [i64], balance: i64, first: u32, journal: &[u8], count: u64, key: &[u8])
-    requires { (0 < length table.old) × Opening balance journal.now count key.now }
-    ensures { table.new ≡ row_of balance (map dated (movements_of (key_from key.now) (held_of journal.now))) first (length table.old) }
+// The ordinal of any number, where it is that of a day.
+fn ordinal_of(day: u64) -> Option<u32>
+    ensures { SomeIff result (ordinal_of day < all_days) (ordinal_of day) }
 {
-    begin(table, balance);
-    fill(table, first, journal, count, key);
-    run(table);
+    dates::ordinal(u32::try_from(day).ok()?)
 }
 
-// The ordinal of any number; 36,525 where it is that of no day.
-fn ordinal_of(day: u64) -> u32
-    ensures { result ≡ ordinal_of day }
+// The span from one day to another.
+fn span_of(first: u64, last: u64) -> Option<Span>
+    ensures { SomeIff result (no_span first last ≡ false) (span_from first last) }
 {
-    if LAST_DAY < day {
-        return ALL_DAYS;
+    let from = ordinal_of(first)?;
+    let to = ordinal_of(last)?;
+    if to < from {
+        return None;
     }
-    dates::ordinal(day as u32)
-}
-
-// The days of a span, both ends counted; 0 where it is none.
-fn span(first: u64, last: u64) -> u64
-    ensures { result ≡ span_of first last }
-{
-    let a = ordinal_of(first);
-    if ALL_DAYS <= a {
-        return 0;
+    let days = (to - from + 1) as usize;
+    if MOST_DAYS < days {
+        return None;
     }
-    let z = ordinal_of(last);
-    if ALL_DAYS <= z {
-        return 0;
-    }
-    if z < a {
-        return 0;
-    }
-    let n = z - a + 1;
-    if MOST_DAYS < n {
-        return 0;
-    }
-    n as u64
-}
-
-// The number of an account's first entry among so many, from 1; 0 where it has none.
-fn first_entry(journal: &[u8], count: u64, key: &[u8]) -> u64
-    ensures { result ≡ first_from count 0 journal.now key.now }
-{
-    let mut e: u64 = 0;
-    while e < count {
-        if journal::of_account(key, journal::body(journal, e + 1)) {
-            return e + 1;
-        }
-        e += 1;
-    }
-    0
+    Some(Span { from, days })
 }
 
 // The old balance of an entry.
@@ -183,56 +154,80 @@ fn old_balance(journal: &[u8], e: u64) -> i64
     k.amount
 }
 
-fn refused(number: u64) -> Outcome
-    ensures { result ≡ Refused number 0 }
-{
-    Outcome::Refused { number, record: 0 }
+impl Ledger<'_> {
+    // The number of its first entry, from 1. The laws of `find` are of a range without its end, hence no `1..=`.
+    fn first_entry(&self) -> Option<u64>
+        ensures { let e = first_from self.now.count 0 self.now.journal.now self.now.key.now in SomeIff result (0 < e) e }
+    {
+        (1..self.count + 1).find(|e| journal::of_account(self.key, journal::body(self.journal, *e)))
+    }
+
+    // Every movement, at its day.
+    fn fill(&self, days: &mut Days)
+        requires { Filling days.old.table.now days.old.first self.now.journal.now self.now.key.now }
+        ensures same_table { days.new.table.ghost_name ≡ days.old.table.ghost_name }
+        ensures table { days.new.table.now ≡ filled days.old.first days.old.table.now (map dated (movements_of (key_from self.now.key.now) (held_of self.now.journal.now))) }
+    {
+        for e in 1..=self.count {
+            days.add_entry(self.key, journal::body(self.journal, e));
+        }
+    }
+
+    // The amounts for as many days as the table has, from an ordinal on.
+    // Not given as `Days`: the proof does not close, since of `&mut table[..n]` in a struct only the length is known when it comes back.
+    fn row(&self, table: &mut [i64], balance: i64, first: u32)
+        requires { (0 < length table.old) × Opening balance self.now.journal.now self.now.key.now }
+        ensures { table.new ≡ row_of balance (map dated (movements_of (key_from self.now.key.now) (held_of self.now.journal.now))) first (length table.old) }
+    {
+        begin(table, balance);
+        let mut days = Days { first, table };
+        self.fill(&mut days);
+        run(table);
+    }
+
+    // The position: no such span, then no such entry, then too short a table.
+    fn position(&self, first: u64, last: u64, table: &mut [i64]) -> Result<u64, Refusal>
+        ensures { Positions self.now.journal.now self.now.key.now first last table.old result table.new }
+    {
+        let Some(span) = span_of(first, last) else {
+            return Err(Reason::NoSpan.at(0));
+        };
+        let Some(e) = self.first_entry() else {
+            return Err(Reason::NoSuchEntry.at(0));
+        };
+        if table.len() < span.days {
+            return Err(Reason::ShortTable.at(0));
+        }
+        let balance = old_balance(self.journal, e);
+        self.row(&mut table[..span.days], balance, span.from);
+        Ok(span.days as u64)
+    }
 }
 
-// The position in a sound journal that holds so many statements: 27, then 25, then 18.
-fn held_position(
+// The balance in value of an account at the end of each day of a span, in the first numbers of a lent table; how many days were filled. On refusal no number changes.
+pub fn position(
     journal: &[u8],
-    count: u64,
     key: &[u8],
     first: u64,
     last: u64,
     table: &mut [i64],
-) -> Outcome
-    requires { (sound_in journal.now ≡ true) × (count ≡ length (held_of journal.now)) }
+) -> Result<u64, Refusal>
     ensures { Positions journal.now key.now first last table.old result table.new }
 {
-    let days = span(first, last);
-    if days == 0 {
-        return refused(27);
-    }
-    let e = first_entry(journal, count, key);
-    if e == 0 {
-        return refused(25);
-    }
-    if (table.len() as u64) < days {
-        return refused(18);
-    }
-    let from = ordinal_of(first);
-    let balance = old_balance(journal, e);
-    row(
-        &mut table[0..days as usize],
-        balance,
-        from,
+    let count = journal::held(journal)?;
+    let ledger = Ledger {
         journal,
         count,
         key,
-    );
-    Outcome::Filled { days }
+    };
+    ledger.position(first, last, table)
 }
 
-// The balance in value of an account at the end of each day of a span, in the first numbers of a lent table. On refusal no number changes.
-pub fn position(journal: &[u8], key: &[u8], first: u64, last: u64, table: &mut [i64]) -> Outcome
-    ensures { Positions journal.now key.now first last table.old result table.new }
+// A refusal's number and record.
+fn refused(refusal: Refusal) -> u64
+    ensures { Refuses (reason_number refusal.reason) refusal.«record» result }
 {
-    match journal::held(journal) {
-        Holding::Statements { count } => held_position(journal, count, key, first, last, table),
-        Holding::Refused { number, record } => Outcome::Refused { number, record },
-    }
+    packing::refused(refusal.reason.number(), refusal.record)
 }
 
 // The number of days filled, as one number.
@@ -245,13 +240,14 @@ pub fn crownhazel_position(
 ) -> u64
     ensures { PositionNumber journal.now key.now first last table.old result table.new }
 {
-    match position(journal, key, first, last, table) {
-        Outcome::Filled { days } => packing::answered(days, 0, 0),
-        Outcome::Refused { number, record } => packing::refused(number, record),
-    }
+    position(journal, key, first, last, table).map_or_else(
+        refused,
+        |days| packing::answered(days, 0, 0),
+    )
 }
 
 // The new balance of an entry, without the sound test.
+#[tactic(auto, unfolding(crate::specs::Positions::balance_in))]
 pub fn crownhazel_balance(journal: &[u8], entry: u64) -> i64
     ensures { Balance journal.now entry result }
 {
@@ -261,15 +257,17 @@ pub fn crownhazel_balance(journal: &[u8], entry: u64) -> i64
 }
 
 // The day so many days after a day.
+fn later_day(day: u64, after: u64) -> Option<u32>
+    ensures { unwrap_or result 0 ≡ later_day day after }
+{
+    let from = ordinal_of(day)?;
+    let days = u32::try_from(after).ok()?;
+    dates::of_ordinal(from.checked_add(days)?)
+}
+
+// The same as a number: 0 for none, by the C interface.
 pub fn crownhazel_day(day: u64, after: u64) -> u64
     ensures { DayAfter day after result }
 {
-    let n = ordinal_of(day);
-    if ALL_DAYS <= n {
-        return 0;
-    }
-    if ALL_DAYS as u64 <= after {
-        return 0;
-    }
-    dates::of_ordinal(n + after as u32) as u64
+    u64::from(later_day(day, after).unwrap_or(0))
 }

@@ -1,3 +1,2 @@
 pub mod Rule
-pub mod Signs
 pub mod One

@@ -6,6 +6,8 @@ use Rattle.zones.specs.Choice.{pick}
 use Rattle.zones.specs.Class.{between}
 use Rattle.zones.specs.Table.{tabulate}
 use Rattle.zones.specs.Text.{bytes}
+use Rattle.codes.specs.declared.MovementMark.{MovementMark}
+use Rattle.codes.specs.declared.MovementMark.TheVariants.{Good, Withdrawn, Absent, Unticked}
 use Rattle.codes.specs.Annex.{Family, OPCA, OPPF, OPET, OPTB, AGFR, OPFI, DIVE, Ticks, debit, credit, both, Row, row, annex, withdrawn}
 
 -- how many characters there are for a code: 0 to 9, A to Z
@@ -117,3 +119,10 @@ mark_in table first second amount = mark_for (number_in table first second) amou
 -- the same by annex 2
 abbrev pub mark_of : ℕ → ℕ → ℤ → ℕ
 mark_of first second amount = mark_in code_table first second amount
+
+-- the number of each mark
+abbrev pub mark_number : MovementMark → ℕ
+mark_number Good = 0
+mark_number Withdrawn = 1
+mark_number Absent = 2
+mark_number Unticked = 3

@@ -1,15 +1,22 @@
 // The interbank operation codes of annex 2: their numbers, what the bits say, and a movement's mark.
 #![tactic(auto)]
 
-ghost use Rattle.std.specs.Prelude.{◌≡◌};
-ghost use Rattle.codes.specs.Code.{char_value, sign_ticked, mark_for};
+ghost use Rattle.std.specs.Prelude.{◌≡◌, ◌<◌, ◌≤◌, MatchOption};
+ghost use Rattle.codes.specs.Code.{characters, char_value, sign_ticked, mark_for, mark_number};
 ghost use Rattle.codes.specs.Answers.{Table, NumberIn, MarkIn, Number, Mark, DebitTicked, CreditTicked, Family, Generic};
+
+use std::cmp::Ordering;
 
 // The characters that there are for a code: 0 to 9, A to Z.
 const CHARACTERS: usize = 36;
 
 // The codes of two characters, and so the numbers of a table.
 pub const CODES: usize = CHARACTERS * CHARACTERS;
+
+// The numbers of a code that annex 2 has not, and of one that it has withdrawn.
+const ABSENT: u16 = 0;
+
+const WITHDRAWN: u16 = 1;
 
 // The number of each code of annex 2, at its index. Those of the worked examples are named.
 const TABLE: [u16; CODES] = [
@@ -70,40 +77,34 @@ pub fn table() -> [u16; CODES]
     TABLE
 }
 
-// The value of a character: 0 to 9, A to Z 10 to 35; 36 for any other byte.
-fn char_value(b: u8) -> usize
-    ensures { result ≡ char_value b }
+// The value of a character: 0 to 9, A to Z 10 to 35; none of any other byte.
+#[tactic(auto, unfolding(crate::specs::Code::char_value))]
+fn char_value(b: u8) -> Option<usize>
+    ensures { MatchOption result (characters ≤ char_value b) (λ v. (v < characters) × (v ≡ char_value b)) }
 {
-    if (b'0' <= b) & (b <= b'9') {
-        return (b - b'0') as usize;
+    match b {
+        b'0'..=b'9' => Some(usize::from(b - b'0')),
+        b'A'..=b'Z' => Some(10 + usize::from(b - b'A')),
+        _ => None,
     }
-    if (b'A' <= b) & (b <= b'Z') {
-        return 10 + (b - b'A') as usize;
-    }
-    CHARACTERS
 }
 
-// The number in a lent table of the code of two bytes; 0 where one is outside A-Z, 0-9.
+// The number in a lent table of the code of two bytes; 0, the number of a code that is absent, where one is outside A-Z, 0-9.
+#[tactic(auto, unfolding(crate::specs::Code::number_in))]
 pub fn number_in(table: &[u16; CODES], first: u8, second: u8) -> u16
     ensures { NumberIn table.now first second result }
 {
-    let a = char_value(first);
-    let b = char_value(second);
-    if a >= CHARACTERS {
-        return 0;
+    match (char_value(first), char_value(second)) {
+        (Some(a), Some(b)) => table[CHARACTERS * a + b],
+        _ => ABSENT,
     }
-    if b >= CHARACTERS {
-        return 0;
-    }
-    table[CHARACTERS * a + b]
 }
 
 // The same in the table of annex 2.
 pub fn number(first: u8, second: u8) -> u16
     ensures { Number first second result }
 {
-    let t = table();
-    number_in(&t, first, second)
+    number_in(&table(), first, second)
 }
 
 // Bit 0.
@@ -120,14 +121,14 @@ pub fn credit_ticked(n: u16) -> bool
     ((n >> 1) & 1) == 1
 }
 
-// Bits 2 to 4.
+// Bits 2 to 4. A number and no enum: it has an answer for any number, as the next one.
 pub fn family(n: u16) -> u16
     ensures { Family n result }
 {
     (n >> 2) & 7
 }
 
-// Bits 5 to 15: the generic code's index, 2047 where there is none.
+// Bits 5 to 15: the generic code's index, 2047 where there is none. A number, as the one before.
 pub fn generic(n: u16) -> u16
     ensures { Generic n result }
 {
@@ -138,42 +139,45 @@ pub fn generic(n: u16) -> u16
 fn sign_ticked(n: u16, amount: i64) -> bool
     ensures { result ≡ sign_ticked n amount }
 {
-    if amount < 0 {
-        return debit_ticked(n);
+    match amount.cmp(&0) {
+        Ordering::Less => debit_ticked(n),
+        Ordering::Equal => true,
+        Ordering::Greater => credit_ticked(n),
     }
-    if 0 < amount {
-        return credit_ticked(n);
-    }
-    true
+}
+
+// The mark of a movement. Each has the paper's number. Good and Unticked are of a listed code, by the column of the amount's sign.
+#[derive(Clone, Copy, PartialEq, Eq, Debug)]
+pub enum MovementMark {
+    Good = 0,
+    Withdrawn = 1,
+    Absent = 2,
+    Unticked = 3,
 }
 
 // The mark for a code's number: withdrawn and absent come before the sign.
-fn mark_for(n: u16, amount: i64) -> u8
-    ensures { result ≡ mark_for n amount }
+#[tactic(auto, unfolding(crate::specs::Code::mark_for))]
+fn mark_for(n: u16, amount: i64) -> MovementMark
+    ensures { mark_number result ≡ mark_for n amount }
 {
-    if n == 1 {
-        return 1;
+    match n {
+        WITHDRAWN => MovementMark::Withdrawn,
+        ABSENT => MovementMark::Absent,
+        _ if sign_ticked(n, amount) => MovementMark::Good,
+        _ => MovementMark::Unticked,
     }
-    if n == 0 {
-        return 2;
-    }
-    if sign_ticked(n, amount) {
-        return 0;
-    }
-    3
 }
 
 // The mark of a movement by a lent table.
-pub fn mark_in(table: &[u16; CODES], first: u8, second: u8, amount: i64) -> u8
+pub fn mark_in(table: &[u16; CODES], first: u8, second: u8, amount: i64) -> MovementMark
     ensures { MarkIn table.now first second amount result }
 {
     mark_for(number_in(table, first, second), amount)
 }
 
 // The mark of a movement by the table of annex 2.
-pub fn mark(first: u8, second: u8, amount: i64) -> u8
+pub fn mark(first: u8, second: u8, amount: i64) -> MovementMark
     ensures { Mark first second amount result }
 {
-    let t = table();
-    mark_in(&t, first, second, amount)
+    mark_in(&table(), first, second, amount)
 }

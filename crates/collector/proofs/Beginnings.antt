@@ -12,7 +12,11 @@ use Rattle.grammar.specs.Statements.{Statement}
 use Rattle.grammar.specs.Files.{Reads, check_of, statements_of}
 use Rattle.records.specs.July.{coding_of}
 use Rattle.contents.specs.Earliest.{earliest_of, beginning_by, beginning_of}
-use Rattle.contents.specs.declared.Beginning.TheVariants as B
+use Rattle.std.specs.Prelude.{Err}
+use Rattle.framing.specs.Refusals.{reason_number, refusal_of}
+use Rattle.framing.specs.declared.refusals.Refusal.{Refusal}
+use Rattle.framing.proofs.Reasons.{reason_back}
+use Rattle.statements.proofs.Listed.{AllListed, check_listed}
 use Rattle.contents.proofs.Begun.{earliest_told}
 use Rattle.contents.specs.Answers.{paper_beginning}
 use Rattle.collector.specs.Packing.{packed_beginning, packed_day}
@@ -21,13 +25,13 @@ use Rattle.collector.proofs.Bounds.{check_bounds, earliest_bounds}
 use Rattle.collector.proofs.Packing.{counted_fits, day_fits}
 
 module _ (e : ℕ) (b : List ℕ) where
-  pub earliest_refused : {n r : ℕ} → (earliest_answer e b ≡ B.Refused n r) ↔ (check_of (coding_of (form e)) (form e) b ≡ refused n r)
+  pub earliest_refused : {x : Refusal} → (earliest_answer e b ≡ Err x) ↔ (check_of (coding_of (form e)) (form e) b ≡ refused (reason_number x.reason) x.«record»)
   unfolding beginning_of
-  earliest_refused {n} {r} = (λ p. by (check_of (coding_of (form e)) (form e) b) p, λ p. rw p)
+  earliest_refused {x} = (λ p. by (check_of (coding_of (form e)) (form e) b) (check_listed (form e) b) p, λ p. rw (p, reason_back x.reason))
     where
-      by : (a : Answer) → beginning_by a (statements_of (coding_of (form e)) (form e) b) ≡ B.Refused n r → a ≡ refused n r
-      by (accepted c) p = absurd (let z : ◌≡◌ {A = ℕ} 0 1 = cc in omega arith)
-      by (refused m k) p = cc
+      by : (a : Answer) → AllListed a → beginning_by a (statements_of (coding_of (form e)) (form e) b) ≡ Err x → a ≡ refused (reason_number x.reason) x.«record»
+      by (accepted c) l p = absurd (let z : ◌≡◌ {A = ℕ} 0 1 = cc in omega arith)
+      by (refused m r) l p = let z : x ≡ refusal_of m r = cc in rw (z, l)
 
   -- as numbers: of kind 1, what answers either is the answer of both
   pub earliest_check : {n : ℕ} → kind_in n ≡ 1 → EarliestNumber e b n ↔ CheckNumber e b n

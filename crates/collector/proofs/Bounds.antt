@@ -1,5 +1,5 @@
 -- The numbers of every answer keep their bounds, for any journal, line-end number, file and length.
-use mathlib.Core.Path.{◌≡◌, refl}
+use mathlib.Core.Path.{◌≡◌, refl, sym}
 use mathlib.Core.Bool.{Bool, true, false, not, ◌&&◌, ◌||◌}
 use mathlib.Core.List.{List, [], ◌∷◌, ◌++◌, map}
 use Prim.Native.Nat.{ℕ, zero, suc, ◌+◌, ◌-◌, ◌*◌, ◌/◌, ◌%◌, ◌<◌, ◌≤◌}
@@ -7,12 +7,16 @@ use native.Mathlib.Omega.{arith}
 use lib.Dec.{eqb, leb, ltb}
 use lib.ListN.{length-map, length, get_or, length-append}
 use borrow.Author.Tests.{ltb-true, ltb-false}
+use borrow.Author.Rules.{rules}
+use Rattle.std.specs.Prelude.{Result, Ok, Err}
 use Rattle.zones.specs.Choice.{pick}
 use Rattle.dates.specs.Ordinals.{last_day}
 use Rattle.framing.specs.declared.Form.{Form}
-use Rattle.framing.specs.declared.Frame.TheVariants as F
 use Rattle.framing.specs.Files.{width_of, count_of, unknown_end}
 use Rattle.framing.specs.Frames.{frame_by}
+use Rattle.framing.specs.Refusals.{refusal_by}
+use Rattle.framing.specs.declared.refusals.Refusal.{Refusal}
+use Rattle.framing.specs.declared.refusals.Reason.TheVariants.{UnknownLineEnd, UnevenLength, TooManyRecords, UnsoundJournal, FullContents, FullJournal}
 use Rattle.grammar.specs.Answer as G
 use Rattle.grammar.specs.Answer.{Counts, Answer, first, cut, whole}
 use Rattle.grammar.specs.Record.{Rec, opening, movement, complement, closing, Edition}
@@ -27,15 +31,13 @@ use Rattle.dates.specs.Days.{is_day}
 use Rattle.dates.proofs.Months.{month_days_lem}
 use Rattle.dates.proofs.Ordinals.{parts, part_month}
 use Rattle.statements.specs.Answers.{checked_of}
+use Rattle.statements.proofs.Listed.{AllListed, check_listed}
 use Rattle.statements.proofs.Numbers.{count_pieces, applied}
 use Rattle.readers.specs.declared.Place.{Place}
-use Rattle.readers.specs.declared.Place.TheVariants as P
 use Rattle.contents.specs.Earliest.{earliest_of, beginning_by, beginning_of}
 use Rattle.contents.proofs.Begun.{earliest_day, earliest_none}
 use Rattle.bodies.proofs.Single.{size_most}
-use Rattle.entries.specs.Entries.{most_entries, table_size, line_at, entry_in, row_size}
-use Rattle.journal_layout.specs.declared.Opening.TheVariants as O
-use Rattle.journal_layout.specs.declared.Usage.TheVariants as U
+use Rattle.entries.specs.Entries.{Fields, most_entries, table_size, line_at, entry_in, row_size}
 use Rattle.journal_layout.specs.Chains.{judgement_of, follows_by}
 use Rattle.journal_layout.specs.Layout.{is_length, lines_of}
 use Rattle.journal_layout.specs.Test.{sound_in, held_of, entry_place_of, listed_place_of, usage_of}
@@ -44,10 +46,10 @@ use Rattle.journal_layout.proofs.Holding.{before_lines, there_alone}
 use Rattle.journal_layout.proofs.Exact.{journal_length, journal_held, sound_journal}
 use Rattle.journal_layout.proofs.Places.{stood}
 use Rattle.journal_layout.proofs.Listing.{listed as place_listed}
-use Rattle.journal.specs.declared.Verdict.TheVariants.{Hold, Store, Refuse}
-use Rattle.journal.specs.Delivery.{refusal, not_next, is_held, verdict_of, Outcome, refused, proceed, run, lines_in, outcome_of}
+use Rattle.journal.specs.declared.Verdict.TheVariants.{Hold, Store}
+use Rattle.journal.specs.Delivery.{rejection, not_next, is_held, verdict_of, Outcome, refused, proceed, run, lines_in, outcome_of}
 use Rattle.journal.specs.Answers.{answer_of}
-use Rattle.collector.specs.Bounds.{RefusalBounds, Body, Lines, CheckBounds, OpeningBounds, DeliveryBounds, EntryBounds, ListedBounds, UsageBounds, LengthBounds, BeginningBounds}
+use Rattle.collector.specs.Bounds.{RefusalBounds, Counted, Body, Lines, CheckBounds, OpeningBounds, DeliveryBounds, EntryBounds, ListedBounds, UsageBounds, LengthBounds, BeginningBounds}
 use Rattle.collector.specs.Answers.{form, open_answer, listed_by, listed_answer, length_answer}
 
 -- ---- the check
@@ -61,21 +63,27 @@ tally_most (movement k p ∷ rs) = let h = tally_most rs in omega arith
 tally_most (complement e t ∷ rs) = let h = tally_most rs in omega arith
 tally_most (closing k d b ∷ rs) = let h = tally_most rs in omega arith
 
+-- by the numbers of the rules
+abbrev AnswerBounds : Answer → Type 0
+AnswerBounds (G.accepted c) = Counted c.statements c.movements c.complements
+AnswerBounds (G.refused n r) = RefusalBounds n r
+
+answer_bounds : (a : Answer) → AllListed a → AnswerBounds a → CheckBounds (checked_of a)
+answer_bounds (G.accepted c) l k = k
+answer_bounds (G.refused n r) l k = rw l k
+
 module _ (f : Form) (b : List ℕ) where
-  bounded : {a : Answer} → Ruled (coding_of f) f b a → CheckBounds (checked_of a)
-  bounded (line p e) = rw e (record { some = omega arith; listed = omega arith; near = omega arith })
-  bounded (multiple p q e) = rw e (record { some = omega arith; listed = omega arith; near = omega arith })
-  bounded (many p q r e) = rw e (record { some = omega arith; listed = omega arith; near = omega arith })
+  bounded : {a : Answer} → Ruled (coding_of f) f b a → AnswerBounds a
+  bounded (line p e) = rw e (search rules)
+  bounded (multiple p q e) = rw e (search rules)
+  bounded (many p q r e) = rw e (search rules)
   bounded (records p q r (first k i h e)) =
       let few = ltb-false most_in_file (count_of record_size f b) r in
       let z = applied f b h.here in
-      let y = z.behind in
-      let v = z.listed_there in
-      let x = z.within in
       rw e (record { some = omega arith; listed = omega arith; near = omega (arith, count_pieces f b) })
   bounded (records p q r (cut n i e)) =
       let few = ltb-false most_in_file (count_of record_size f b) r in
-      rw e (record { some = omega arith; listed = omega arith; near = omega arith })
+      rw e (search rules)
   bounded (records p q r (whole n i e)) =
       let few = ltb-false most_in_file (count_of record_size f b) r in
       let rs = map (rec_of (coding_of f)) (pieces (coding_of f) f b) in
@@ -89,16 +97,16 @@ module _ (f : Form) (b : List ℕ) where
       })
 
   pub check_bounds : CheckBounds (checked_of (check_of (coding_of f) f b))
-  check_bounds = bounded (T.ruled f b)
+  check_bounds = answer_bounds (check_of (coding_of f) f b) (check_listed f b) (bounded (T.ruled f b))
 
 -- ---- opening
 
 pub opening_bounds : (j : List ℕ) → OpeningBounds (open_answer j)
 opening_bounds j = by (is_length (length j))
   where
-    by : (t : Bool) → OpeningBounds (pick t O.Opened (O.Refused 21 0))
+    by : (t : Bool) → OpeningBounds (pick t (Ok tt) (Err (refusal_by UnsoundJournal 0)))
     by true = tt
-    by false = record { some = omega arith; listed = omega arith; near = omega arith }
+    by false = search rules
 
 -- ---- the delivery
 
@@ -116,16 +124,8 @@ size_first E s ss = omega (arith, length-append (records_of E s) (all_records E 
 run_bounds : (E : Edition) (n : ℕ) (hs : List Statement) (behind stored held : ℕ) (ss : List Statement) → Left E hs behind stored held ss
     → DeliveryBounds (answer_of (run n hs behind stored held ss))
 unfolding run verdict_of
-run_bounds E n hs behind stored held [] l =
-    let e = l.entries in
-    let a = l.stores in
-    let h = l.statements in
-    record { few_stored = omega arith; few_held = omega arith }
+run_bounds E n hs behind stored held [] l = search rules
 run_bounds E n hs behind stored held (s ∷ ss) l =
-    let e = l.entries in
-    let a = l.stores in
-    let h = l.statements in
-    let r = l.rows in
     let z = size_first E s ss in
     by (run n hs (behind + size_of s) stored (held + 1) ss) (run n (hs ++ (s ∷ [])) (behind + size_of s) (stored + 1) held ss)
     (is_held (judgement_of s hs)) (follows_by (judgement_of s hs) s.old_date s.old_balance) (ltb (length hs) most_entries)
@@ -142,12 +142,12 @@ run_bounds E n hs behind stored held (s ∷ ss) l =
         → behind + 1 ≤ most_in_file
         → DeliveryBounds
         (answer_of
-        (proceed (pick t Hold (pick u (pick v (pick w Store (Refuse (refusal 24 (behind + 1)))) (Refuse (refusal 23 (behind + 1)))) (Refuse (not_next (judgement_of s hs) (behind + 1))))) H S refused))
+        (proceed (pick t (Ok Hold) (pick u (pick v (pick w (Ok Store) (Err (rejection (refusal_by FullJournal (behind + 1))))) (Err (rejection (refusal_by FullContents (behind + 1))))) (Err (not_next (judgement_of s hs) (behind + 1))))) H S refused))
     by H S true u v w e h s r = h
     by H S false true true true e h s r = s (ltb-true (length hs) most_entries e)
-    by H S false true true false e h s r = record { some = omega arith; listed = omega arith; near = r }
-    by H S false true false w e h s r = record { some = omega arith; listed = omega arith; near = r }
-    by H S false false v w e h s r = record { some = omega arith; listed = omega arith; near = r }
+    by H S false true true false e h s r = search rules
+    by H S false true false w e h s r = search rules
+    by H S false false v w e h s r = search rules
 
 -- an accepted file has no more statements than records
 statements_few : (f : Form) (b : List ℕ) {c : Counts} → check_of (coding_of f) f b ≡ G.accepted c → length (statements_of (coding_of f) f b) ≤ most_in_file
@@ -160,8 +160,8 @@ unfolding outcome_of
 delivery_bounds j f b = by (sound_in j) refl (check_of (coding_of f) f b) refl
   where
     by : (t : Bool) → sound_in j ≡ t → (a : Answer) → check_of (coding_of f) f b ≡ a → DeliveryBounds (answer_of (outcome_of j f b))
-    by false p a q = rw p (record { some = omega arith; listed = omega arith; near = omega arith })
-    by true p (G.refused n r) q = let z : RefusalBounds n r = rw q at (check_bounds f b) in rw (p, q) z
+    by false p a q = rw p (search rules)
+    by true p (G.refused n r) q = let z : CheckBounds (checked_of (G.refused n r)) = rw q at (check_bounds f b) in rw (p, q) z
     by true p (G.accepted c) q =
         let g = sound_journal j p in
         let few = g.kept.few in
@@ -174,14 +174,13 @@ delivery_bounds j f b = by (sound_in j) refl (check_of (coding_of f) f b) refl
 -- ---- an entry
 
 module _ (j : List ℕ) (e : ℕ) where
-  found : {x n : ℕ} → P.At x n ≡ entry_place_of j e → Body x n
-  found p =
-      let s = stood j e p in
+  found : {p : Place} → Ok p ≡ entry_place_of j e → Body p.first p.len
+  found q =
+      let s = stood j e q in
       let g = sound_journal j s.sound in
       let ss = held_of j in
       let behind = before_lines (e - 1) ss s.index in
-      let room = g.kept.room in
-      let most = g.most in
+      let k = g.kept in
       record {
         line = records_before (e - 1) ss;
         records = size_of (get_or ss (e - 1) no_statement);
@@ -191,58 +190,45 @@ module _ (j : List ℕ) (e : ℕ) where
         few = size_most (there_alone (journal_held g).holding (e - 1) s.index);
       }
 
-  not_found : {n r : ℕ} → P.Refused n r ≡ entry_place_of j e → RefusalBounds n r
-  unfolding entry_place_of
-  not_found {n} {r} p = by _ _ (sound_in j) (eqb e 0 || ltb (length (held_of j)) e) p
-    where
-      by : (x m : ℕ) (t u : Bool) → P.Refused n r ≡ pick t (pick u (P.Refused 25 0) (P.At x m)) (P.Refused 21 0) → RefusalBounds n r
-      by x m false u q = let a : n ≡ 21 = cc in let b : r ≡ 0 = cc in record { some = omega arith; listed = omega arith; near = omega arith }
-      by x m true true q = let a : n ≡ 25 = cc in let b : r ≡ 0 = cc in record { some = omega arith; listed = omega arith; near = omega arith }
-      by x m true false q = absurd (let z : ◌≡◌ {A = ℕ} 0 1 = cc in omega arith)
-
   pub entry_bounds : EntryBounds (entry_place_of j e)
-  entry_bounds = by (entry_place_of j e) refl
+  unfolding entry_place_of
+  entry_bounds = by (sound_in j) refl (eqb e 0 || ltb (length (held_of j)) e) refl
     where
-      by : (r : Place) → r ≡ entry_place_of j e → EntryBounds r
-      by (P.At x n) p = found p
-      by (P.Refused n r) p = not_found p
+      by : (t : Bool) → sound_in j ≡ t → (u : Bool) → (eqb e 0 || ltb (length (held_of j)) e) ≡ u → EntryBounds (entry_place_of j e)
+      by false p u q = rw p (search rules)
+      by true p true q = rw (p, q) (search rules)
+      by true p false q = rw (p, q) (found (sym (rw (p, q))))
 
 -- ---- an entry listed
 
 module _ (j : List ℕ) (e : ℕ) where
-  there : {x n : ℕ} → P.At x n ≡ listed_place_of j e → Lines x n
-  there p =
-      let s = place_listed j e p in
-      let f = s.first in
-      let l = s.len in
-      let i = s.inside in
+  there : {p : Place} → Ok p ≡ listed_place_of j e → Lines p.first p.len
+  there q =
+      let s = place_listed j e q in
       let m = (is_long (length j) s.long).most in
-      record { line = (entry_in j (e - 1)).first; records = (entry_in j (e - 1)).records; begins = f; runs = l; low = omega arith; few = omega arith }
-
-  not_there : {n r : ℕ} → P.Refused n r ≡ listed_place_of j e → RefusalBounds n r
-  unfolding listed_place_of
-  not_there {n} {r} p = by _ _ (is_length (length j)) (eqb e 0) ((entry_in j (e - 1)).used && leb (line_at (entry_in j (e - 1)).first + record_size * (entry_in j (e - 1)).records) (length j)) p
-    where
-      by : (x m : ℕ) (t u v : Bool) → P.Refused n r ≡ pick t (pick u (P.Refused 25 0) (pick v (P.At x m) (P.Refused 25 0))) (P.Refused 21 0) → RefusalBounds n r
-      by x m false u v q = let a : n ≡ 21 = cc in let b : r ≡ 0 = cc in record { some = omega arith; listed = omega arith; near = omega arith }
-      by x m true true v q = let a : n ≡ 25 = cc in let b : r ≡ 0 = cc in record { some = omega arith; listed = omega arith; near = omega arith }
-      by x m true false false q = let a : n ≡ 25 = cc in let b : r ≡ 0 = cc in record { some = omega arith; listed = omega arith; near = omega arith }
-      by x m true false true q = absurd (let z : ◌≡◌ {A = ℕ} 0 1 = cc in omega arith)
+      record { line = (entry_in j (e - 1)).first; records = (entry_in j (e - 1)).records; begins = s.first; runs = s.len; low = omega arith; few = omega arith }
 
   pub place_bounds : ListedBounds (listed_place_of j e)
-  place_bounds = by (listed_place_of j e) refl
+  unfolding listed_place_of
+  place_bounds = by (is_length (length j)) refl (eqb e 0) refl (y.used && leb (line_at y.first + record_size * y.records) (length j)) refl
     where
-      by : (r : Place) → r ≡ listed_place_of j e → ListedBounds r
-      by (P.At x n) p = there p
-      by (P.Refused n r) p = not_there p
+      y : Fields
+      y = entry_in j (e - 1)
+
+      by : (t : Bool) → is_length (length j) ≡ t → (u : Bool) → eqb e 0 ≡ u
+          → (v : Bool) → (y.used && leb (line_at y.first + record_size * y.records) (length j)) ≡ v → ListedBounds (listed_place_of j e)
+      by false p u q v r = rw p (search rules)
+      by true p true q v r = rw (p, q) (search rules)
+      by true p false q false r = rw (p, q, r) (search rules)
+      by true p false q true r = rw (p, q, r) (there (sym (rw (p, q, r))))
 
   pub listed_bounds : (row : List ℕ) → ListedBounds (listed_answer j e row)
   listed_bounds row = by (listed_place_of j e) place_bounds (ltb (length row) row_size) refl
     where
-      by : (r : Place) → ListedBounds r → (t : Bool) → ltb (length row) row_size ≡ t → ListedBounds (listed_by r (length row))
-      by (P.At x n) k true q = rw q (record { some = omega arith; listed = omega arith; near = omega arith })
-      by (P.At x n) k false q = rw q k
-      by (P.Refused n r) k t q = k
+      by : (r : Result Place Refusal) → ListedBounds r → (t : Bool) → ltb (length row) row_size ≡ t → ListedBounds (listed_by r (length row))
+      by (Ok p) k true q = rw q (search rules)
+      by (Ok p) k false q = rw q k
+      by (Err r) k t q = k
 
 -- ---- how much is used
 
@@ -251,13 +237,13 @@ unfolding usage_of
 usage_bounds j = by (sound_in j) refl
   where
     by : (t : Bool) → sound_in j ≡ t
-        → UsageBounds (pick t (U.Counted (length (held_of j)) (lines_of (held_of j)) ((length j - table_size) / record_size)) (U.Refused 21 0))
+        → UsageBounds (pick t (Ok (record { entries = length (held_of j); used = lines_of (held_of j); lines = (length j - table_size) / record_size })) (Err (refusal_by UnsoundJournal 0)))
     by true p =
         let g = sound_journal j p in
         let n = journal_length g in
         let z : (length j - table_size) / record_size ≡ g.lines = omega arith in
         record { few_entries = g.kept.few; room = rw z g.kept.room; few_lines = rw z g.most }
-    by false p = record { some = omega arith; listed = omega arith; near = omega arith }
+    by false p = search rules
 
 -- ---- a file's length
 
@@ -269,10 +255,10 @@ length_bounds e n = by (unknown_end (form e)) (not (eqb (n % w) 0)) (ltb most_in
     w = width_of record_size (form e)
 
     by : (a b c : Bool) → ltb most_in_file (n / w) ≡ c
-        → LengthBounds (pick a (F.Refused 1) (pick b (F.Refused 2) (pick c (F.Refused 3) (F.Records w (n / w)))))
-    by true b c q = record { some = omega arith; listed = omega arith; near = omega arith }
-    by false true c q = record { some = omega arith; listed = omega arith; near = omega arith }
-    by false false true q = record { some = omega arith; listed = omega arith; near = omega arith }
+        → LengthBounds (pick a (Err (refusal_by UnknownLineEnd 0)) (pick b (Err (refusal_by UnevenLength 0)) (pick c (Err (refusal_by TooManyRecords 0)) (Ok (record { width = w; count = n / w })))))
+    by true b c q = search rules
+    by false true c q = search rules
+    by false false true q = search rules
     by false false false q = ltb-false most_in_file (n / w) q
 
 -- ---- on what day a file begins
@@ -297,4 +283,4 @@ earliest_bounds f b = by (check_of (coding_of f) f b) refl
 
     by : (a : Answer) → check_of (coding_of f) f b ≡ a → BeginningBounds (beginning_by a (statements_of (coding_of f) f b))
     by (G.accepted c) p = early (T.reads f b p)
-    by (G.refused n r) p = let z : RefusalBounds n r = rw p at (check_bounds f b) in z
+    by (G.refused n r) p = rw p at (check_bounds f b)

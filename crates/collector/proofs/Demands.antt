@@ -8,24 +8,25 @@ use Rattle.framing.specs.Files.{line_end}
 use Rattle.grammar.specs.Files.{check_of, Ruled}
 use Rattle.grammar.specs.Demand.{Demand2}
 use Rattle.records.specs.July.{coding_of}
-use Rattle.statements.specs.declared.Checked.{Checked}
+use Rattle.std.specs.Prelude.{Result}
+use Rattle.framing.specs.declared.refusals.Refusal.{Refusal}
+use Rattle.statements.specs.declared.Counts.{Counts}
 use Rattle.statements.specs.Answers.{checked_of, answer_of, paper_check, paper_of, checked_by, Check}
-use Rattle.statements.proofs.Paper.{Numbered, checks, paper_apart}
+use Rattle.statements.proofs.Paper.{checks, paper_apart}
 use Rattle.statements.proofs.Demand.{check_ruled, check_demand2}
 use Rattle.journal.specs.declared.Delivery.{Delivery}
+use Rattle.journal.specs.declared.Rejection.{Rejection}
 use Rattle.journal.specs.Delivery.{outcome_of, content_of}
 use Rattle.journal.specs.Series.{Deliver, Demand3}
 use Rattle.journal.specs.Isolation.{Isolation}
 use Rattle.journal.specs.Answers.{paper_delivery, paper_outcome, delivery_by, Delivers}
 use Rattle.journal.specs.Answers.{answer_of as answer_for}
 use Rattle.journal.proofs.Paper.{delivers, delivery_apart}
-use Rattle.journal.proofs.Paper as J
 use Rattle.journal.proofs.Series.{deliver_demand3}
 use Rattle.journal.proofs.Isolation.{deliver_isolation}
 use Rattle.collector.specs.Packing.{paper_check_in, paper_delivery_in}
 use Rattle.collector.specs.Answers.{form, CheckNumber, OpenNumber, DeliverNumber, ExpectedDate, ExpectedBalance}
-use Rattle.collector.proofs.Bounds.{check_bounds, delivery_bounds}
-use Rattle.collector.proofs.Packing.{check_numbered, delivery_numbered, check_unpacked, deliver_unpacked}
+use Rattle.collector.proofs.Packing.{check_unpacked, deliver_unpacked}
 
 -- ---- the numbers
 
@@ -39,7 +40,7 @@ number_demand2 check c = check_demand2 (λ f b. checked_by (paper_check_in (chec
 
 -- opening and delivering: each call's number, what was expected, and the journal that it leaves
 module _ (opening : List ℕ → ℕ) (opened : List ℕ → List ℕ) (delivery : List ℕ → ℕ → List ℕ → ℕ) (delivered : List ℕ → ℕ → List ℕ → List ℕ) (date : List ℕ → ℕ → List ℕ → ℕ) (balance : List ℕ → ℕ → List ℕ → ℤ) where
-  abbrev pub answered : List ℕ → Form → List ℕ → Delivery
+  abbrev pub answered : List ℕ → Form → List ℕ → Result Delivery Rejection
   answered j f b = delivery_by (paper_delivery_in (delivery j (line_end f) b) (date j (line_end f) b) (balance j (line_end f) b))
 
   abbrev pub delivering : Deliver
@@ -57,15 +58,15 @@ module _ (opening : List ℕ → ℕ) (opened : List ℕ → List ℕ) (delivery
     pub number_isolation : Isolation opened delivering
     number_isolation = deliver_isolation opened delivering (λ j. (o j).content) number_delivers
 
--- ---- the paper's record alone: an answer that has it, and whose refusal has a number, meets the contract
+-- ---- the paper's record alone: an answer that has it meets the contract
 
-pub check_recorded : {f : Form} {b : List ℕ} {r : Checked} → Numbered r → paper_check r ≡ paper_of (check_of (coding_of f) f b) → Check f b r
-check_recorded {f} {b} {r} k p =
+pub check_recorded : {f : Form} {b : List ℕ} {r : Result Counts Refusal} → paper_check r ≡ paper_of (check_of (coding_of f) f b) → Check f b r
+check_recorded {f} {b} {r} p =
     let a = checked_of (check_of (coding_of f) f b) in
-    checks (paper_apart {r = r} {q = a} k (check_numbered a (check_bounds f b)) (p ∙ sym (checks {f = f} {b = b} {r = a} refl).paper))
+    checks (paper_apart {r = r} {q = a} (p ∙ sym (checks {f = f} {b = b} {r = a} refl).paper))
 
-pub deliver_recorded : {j : List ℕ} {f : Form} {b : List ℕ} {r : Delivery} {j' : List ℕ} → J.Numbered r → paper_delivery r ≡ paper_outcome (outcome_of j f b) → j' ≡ content_of j f b
+pub deliver_recorded : {j : List ℕ} {f : Form} {b : List ℕ} {r : Result Delivery Rejection} {j' : List ℕ} → paper_delivery r ≡ paper_outcome (outcome_of j f b) → j' ≡ content_of j f b
     → Delivers j f b r j'
-deliver_recorded {j} {f} {b} {r} k p c =
+deliver_recorded {j} {f} {b} {r} p c =
     let a = answer_for (outcome_of j f b) in
-    delivers (delivery_apart {r = r} {q = a} k (delivery_numbered a (delivery_bounds j f b)) (p ∙ sym (delivers {j = j} {f = f} {b = b} {r = a} refl c).paper)) c
+    delivers (delivery_apart {r = r} {q = a} (p ∙ sym (delivers {j = j} {f = f} {b = b} {r = a} refl c).paper)) c

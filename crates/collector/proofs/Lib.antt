@@ -1,7 +1,6 @@
 pub mod Bounds
 pub mod Packing
 pub mod Expected
-pub mod Calls
 pub mod Rows
 pub mod Listed
 pub mod Lengths

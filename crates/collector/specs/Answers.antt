@@ -1,27 +1,27 @@
 -- The contract of each exported function: its one number, and the one final content of a lent journal or row. Of a delivery's answer the number has all but what was expected, which two functions give apart.
-use Rattle.std.specs.Prelude.{◌≡◌, List, ◌++◌, ℕ, ◌-◌, ltb, ℤ, length, drop}
+use Rattle.std.specs.Prelude.{Result, Ok, Err, ◌≡◌, List, ◌++◌, ℕ, ◌-◌, ltb, ℤ, length, drop}
 use Rattle.zones.specs.Choice.{pick}
 use Rattle.framing.specs.declared.Form.{Form}
 use Rattle.framing.specs.declared.Frame.{Frame}
+use Rattle.framing.specs.declared.refusals.Refusal.{Refusal}
+use Rattle.framing.specs.declared.refusals.Reason.TheVariants.{ShortOutput, UnsoundJournal}
+use Rattle.framing.specs.Refusals.{refusal_by}
 use Rattle.framing.specs.Frames.{frame_by}
 use Rattle.framing.specs.Answers.{paper_frame}
 use Rattle.grammar.specs.Files.{check_of}
 use Rattle.records.specs.July.{record_size, most_in_file, coding_of}
-use Rattle.statements.specs.declared.Checked.{Checked}
+use Rattle.statements.specs.declared.Counts.{Counts}
 use Rattle.statements.specs.Answers.{checked_of, paper_check}
 use Rattle.readers.specs.declared.Place.{Place}
-use Rattle.readers.specs.declared.Place.TheVariants as P
 use Rattle.readers.specs.Answers.{paper_place}
-use Rattle.contents.specs.declared.Beginning.{Beginning}
 use Rattle.contents.specs.Earliest.{beginning_of}
 use Rattle.contents.specs.Answers.{paper_beginning}
 use Rattle.entries.specs.Entries.{row_size, entry_bytes, row_of}
-use Rattle.journal_layout.specs.declared.Opening.{Opening}
-use Rattle.journal_layout.specs.declared.Opening.TheVariants.{Opened, Refused}
 use Rattle.journal_layout.specs.Layout.{is_length, opened_of}
 use Rattle.journal_layout.specs.Test.{entry_place_of, listed_place_of, usage_of}
 use Rattle.journal_layout.specs.Answers.{paper_opening, paper_usage}
 use Rattle.journal.specs.declared.Delivery.{Delivery}
+use Rattle.journal.specs.declared.Rejection.{Rejection}
 use Rattle.journal.specs.Delivery.{outcome_of, content_of}
 use Rattle.journal.specs.Answers.{answer_of, paper_delivery}
 use Rattle.collector.specs.Packing.{packed_check, packed_opening, packed_delivery, packed_entry, packed_usage, packed_length, packed_beginning}
@@ -31,37 +31,37 @@ abbrev pub form : ℕ → Form
 form e = record { line_end = e }
 
 -- the answers whose paper's records are packed; of an entry it is `entry_place_of`, of what is used `usage_of`
-abbrev pub check_answer : (e : ℕ) → List ℕ → Checked
+abbrev pub check_answer : (e : ℕ) → List ℕ → Result Counts Refusal
 check_answer e b = checked_of (check_of (coding_of (form e)) (form e) b)
 
-abbrev pub open_answer : List ℕ → Opening
-open_answer j = pick (is_length (length j)) Opened (Refused 21 0)
+abbrev pub open_answer : List ℕ → Result Unit Refusal
+open_answer j = pick (is_length (length j)) (Ok tt) (Err (refusal_by UnsoundJournal 0))
 
-abbrev pub deliver_answer : List ℕ → (e : ℕ) → List ℕ → Delivery
+abbrev pub deliver_answer : List ℕ → (e : ℕ) → List ℕ → Result Delivery Rejection
 deliver_answer j e b = answer_of (outcome_of j (form e) b)
 
 -- of an entry listed: 21 and 25, then 20 for a row that is too short
-abbrev pub listed_by : Place → (room : ℕ) → Place
-listed_by (P.At x n) room = pick (ltb room row_size) (P.Refused 20 0) (P.At x n)
-listed_by (P.Refused n r) room = P.Refused n r
+abbrev pub listed_by : Result Place Refusal → (room : ℕ) → Result Place Refusal
+listed_by (Ok p) room = pick (ltb room row_size) (Err (refusal_by ShortOutput 0)) (Ok p)
+listed_by (Err e) room = Err e
 
-abbrev pub listed_answer : List ℕ → (e : ℕ) → (row : List ℕ) → Place
+abbrev pub listed_answer : List ℕ → (e : ℕ) → (row : List ℕ) → Result Place Refusal
 listed_answer j e row = listed_by (listed_place_of j e) (length row)
 
 -- the entry's row into the first bytes, those after them as they were; a refusal leaves all as it was
-abbrev pub content_by : Place → (x row : List ℕ) → List ℕ
-content_by (P.At first n) x row = x ++ drop row_size row
-content_by (P.Refused n r) x row = row
+abbrev pub content_by : Result Place Refusal → (x row : List ℕ) → List ℕ
+content_by (Ok p) x row = x ++ drop row_size row
+content_by (Err e) x row = row
 
 abbrev pub listed_content : List ℕ → (e : ℕ) → (row : List ℕ) → List ℕ
 listed_content j e row = content_by (listed_answer j e row) (row_of (entry_bytes j (e - 1))) row
 
 -- of a file's length alone
-abbrev pub length_answer : (e n : ℕ) → Frame
+abbrev pub length_answer : (e n : ℕ) → Result Frame Refusal
 length_answer e n = frame_by (form e) record_size most_in_file n
 
 -- of a file's beginning
-abbrev pub earliest_answer : (e : ℕ) → List ℕ → Beginning
+abbrev pub earliest_answer : (e : ℕ) → List ℕ → Result ℕ Refusal
 earliest_answer e b = beginning_of (form e) b
 
 -- crownhazel_check

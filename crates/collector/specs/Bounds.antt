@@ -1,23 +1,17 @@
 -- How large the numbers of an answer can be.
-use Rattle.std.specs.Prelude.{◌≡◌, ℕ, ◌*◌, ◌<◌, ◌≤◌}
+use Rattle.std.specs.Prelude.{Result, MatchResult, ℕ, ◌≡◌, ◌*◌, ◌<◌, ◌≤◌}
 use Rattle.dates.specs.Ordinals.{last_day}
-use Rattle.records.specs.July.{record_size, most_in_file, most_in_statement}
 use Rattle.framing.specs.declared.Frame.{Frame}
-use Rattle.framing.specs.declared.Frame.TheVariants as F
-use Rattle.statements.specs.declared.Checked.{Checked}
-use Rattle.statements.specs.declared.Checked.TheVariants as C
+use Rattle.framing.specs.declared.refusals.Refusal.{Refusal}
+use Rattle.framing.specs.Refusals.{reason_number}
+use Rattle.records.specs.July.{record_size, most_in_file, most_in_statement}
+use Rattle.statements.specs.declared.Counts.{Counts}
 use Rattle.readers.specs.declared.Place.{Place}
-use Rattle.readers.specs.declared.Place.TheVariants as P
-use Rattle.contents.specs.declared.Beginning.{Beginning}
-use Rattle.contents.specs.declared.Beginning.TheVariants as B
 use Rattle.entries.specs.Entries.{most_entries, line_at}
-use Rattle.journal_layout.specs.declared.Opening.{Opening}
-use Rattle.journal_layout.specs.declared.Opening.TheVariants as O
 use Rattle.journal_layout.specs.declared.Usage.{Usage}
-use Rattle.journal_layout.specs.declared.Usage.TheVariants as U
 use Rattle.journal_layout.specs.Layout.{most_lines}
 use Rattle.journal.specs.declared.Delivery.{Delivery}
-use Rattle.journal.specs.declared.Delivery.TheVariants as D
+use Rattle.journal.specs.declared.Rejection.{Rejection}
 
 -- the last number of the list of refusals
 abbrev pub last_refusal : ℕ
@@ -61,34 +55,33 @@ pub record Filled (entries used lines : ℕ) : Type 0 where
   pub room : used ≤ lines
   pub few_lines : lines ≤ most_lines
 
-abbrev pub CheckBounds : Checked → Type 0
-CheckBounds (C.Accepted s m c) = Counted s m c
-CheckBounds (C.Refused n r) = RefusalBounds n r
+-- of an answer the bounds of its value, or of its refusal
+abbrev pub InList : Refusal → Type 0
+InList e = RefusalBounds (reason_number e.reason) e.«record»
 
-abbrev pub OpeningBounds : Opening → Type 0
-OpeningBounds O.Opened = Unit
-OpeningBounds (O.Refused n r) = RefusalBounds n r
+abbrev pub Bounded : {A : Type 0} → (A → Type 0) → Result A Refusal → Type 0
+Bounded P r = MatchResult r P InList
 
-abbrev pub DeliveryBounds : Delivery → Type 0
-DeliveryBounds (D.Done s h) = Told s h
-DeliveryBounds (D.Refused r) = RefusalBounds r.number r.«record»
+abbrev pub CheckBounds : Result Counts Refusal → Type 0
+CheckBounds r = Bounded (λ c. Counted c.statements c.movements c.complements) r
 
-abbrev pub EntryBounds : Place → Type 0
-EntryBounds (P.At x n) = Body x n
-EntryBounds (P.Refused n r) = RefusalBounds n r
+abbrev pub OpeningBounds : Result Unit Refusal → Type 0
+OpeningBounds r = Bounded (λ u. Unit) r
 
-abbrev pub ListedBounds : Place → Type 0
-ListedBounds (P.At x n) = Lines x n
-ListedBounds (P.Refused n r) = RefusalBounds n r
+abbrev pub DeliveryBounds : Result Delivery Rejection → Type 0
+DeliveryBounds r = MatchResult r (λ d. Told d.stored d.held) (λ e. InList e.refusal)
 
-abbrev pub UsageBounds : Usage → Type 0
-UsageBounds (U.Counted e u l) = Filled e u l
-UsageBounds (U.Refused n r) = RefusalBounds n r
+abbrev pub EntryBounds : Result Place Refusal → Type 0
+EntryBounds r = Bounded (λ p. Body p.first p.len) r
 
-abbrev pub LengthBounds : Frame → Type 0
-LengthBounds (F.Records w n) = n ≤ most_in_file
-LengthBounds (F.Refused n) = RefusalBounds n 0
+abbrev pub ListedBounds : Result Place Refusal → Type 0
+ListedBounds r = Bounded (λ p. Lines p.first p.len) r
 
-abbrev pub BeginningBounds : Beginning → Type 0
-BeginningBounds (B.On d) = d ≤ last_day
-BeginningBounds (B.Refused n r) = RefusalBounds n r
+abbrev pub UsageBounds : Result Usage Refusal → Type 0
+UsageBounds r = Bounded (λ u. Filled u.entries u.used u.lines) r
+
+abbrev pub LengthBounds : Result Frame Refusal → Type 0
+LengthBounds r = Bounded (λ c. c.count ≤ most_in_file) r
+
+abbrev pub BeginningBounds : Result ℕ Refusal → Type 0
+BeginningBounds r = Bounded (λ d. d ≤ last_day) r

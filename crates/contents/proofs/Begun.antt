@@ -19,7 +19,7 @@ use Rattle.records.specs.July.{coding_of}
 use Rattle.records.proofs.Theorems.{counts, reads, unique, part_reads}
 use Rattle.records.proofs.Zones.{opening_day}
 use Rattle.contents.specs.Earliest.{earlier_of, earliest_from, earliest_of, beginning_of}
-use Rattle.contents.specs.declared.Beginning.TheVariants.{On}
+use Rattle.std.specs.Prelude.{Ok}
 
 -- ---- two days
 
@@ -137,6 +137,6 @@ module _ {f : Form} {b : List ℕ} {ss : List Statement} (r : Reads (coding_of f
       by (suc n) l z = absurd (let h = of_some ss old_some (omega arith) in omega arith)
 
   -- it is what is answered
-  pub earliest_told : beginning_of f b ≡ On (earliest_of ss)
+  pub earliest_told : beginning_of f b ≡ Ok (earliest_of ss)
   unfolding beginning_of
   earliest_told = let q : statements_of (coding_of f) f b ≡ ss = unique (reads f b (counts r)) r in rw (counts r, q)

@@ -26,17 +26,21 @@ use Rattle.records.specs.declared.Look.{Look}
 use Rattle.records.specs.Looks.{look_of}
 use Rattle.records.proofs.Theorems.{counts}
 use Rattle.fields.specs.Rows.{key_at_of}
-use Rattle.statements.specs.declared.Checked.TheVariants as C
+use Rattle.std.specs.Prelude.{Ok, Err}
+use Rattle.framing.specs.declared.refusals.Refusal.{Refusal}
+use Rattle.statements.specs.declared.Counts.{Counts}
 use Rattle.statements.specs.Answers.{checked_of}
 use Rattle.statements.proofs.Judging.{look_small}
-use Rattle.statements.proofs.Modes.{View, one, four, five, seven, view}
-use Rattle.readers.specs.declared.Place.TheVariants.{Refused}
+use Rattle.records.specs.Looks.{judged_as}
+use Rattle.records.specs.declared.Kind.{Kind}
+use Rattle.records.specs.declared.Kind.TheVariants.{Opening, Movement, Complement, Closing}
+use Rattle.statements.proofs.Modes.{stands, decoded}
 use Rattle.readers.specs.Places.{place_of}
 use Rattle.readers.proofs.Movements.{before, rest}
 use Rattle.readers.proofs.Turns.{after_last}
 use Rattle.contents.specs.declared.Head.{Head}
-use Rattle.contents.specs.declared.HeadAnswer.{HeadAnswer}
-use Rattle.contents.specs.Heads.{record_at_of, head_from, no_head, head_among, head_in, head_at, movements_in}
+use Rattle.contents.specs.declared.Summary.{Summary}
+use Rattle.contents.specs.Heads.{record_at_of, head_from, head_among, head_in, head_at, movements_in}
 use Rattle.contents.proofs.Records.{HoldsAt, record_there}
 
 -- the values of a balance
@@ -46,22 +50,22 @@ pub record Balance (b : List ℕ) (k : Key) (d : ℕ) (a : ℤ) : Type 0 where
   pub amount : amount_in b ≡ a
 
 pub opened : (b : List ℕ) {k : Key} {d : ℕ} {a : ℤ} → decode_record b ≡ opening k d a → Balance b k d a
-opened b {k} {d} {a} e = by (view b)
+opened b {k} {d} {a} e = by (judged_as b) (decoded b)
   where
-    by : View b → Balance b k d a
-    by (one q p) = let z = sym p ∙ e in record { key = cc; day = cc; amount = cc }
-    by (four q p) = absurd (let g = sym p ∙ e in let z : ◌≡◌ {A = ℕ} 0 1 = cc in omega arith)
-    by (five q p) = absurd (let g = sym p ∙ e in let z : ◌≡◌ {A = ℕ} 0 1 = cc in omega arith)
-    by (seven q p) = absurd (let g = sym p ∙ e in let z : ◌≡◌ {A = ℕ} 0 1 = cc in omega arith)
+    by : (c : Kind) → decode_record b ≡ stands c b → Balance b k d a
+    by Opening p = let z = sym p ∙ e in record { key = cc; day = cc; amount = cc }
+    by Movement p = absurd (let g = sym p ∙ e in let z : ◌≡◌ {A = ℕ} 0 1 = cc in omega arith)
+    by Complement p = absurd (let g = sym p ∙ e in let z : ◌≡◌ {A = ℕ} 0 1 = cc in omega arith)
+    by Closing p = absurd (let g = sym p ∙ e in let z : ◌≡◌ {A = ℕ} 0 1 = cc in omega arith)
 
 pub closed : (b : List ℕ) {k : Key} {d : ℕ} {a : ℤ} → decode_record b ≡ closing k d a → Balance b k d a
-closed b {k} {d} {a} e = by (view b)
+closed b {k} {d} {a} e = by (judged_as b) (decoded b)
   where
-    by : View b → Balance b k d a
-    by (seven q p) = let z = sym p ∙ e in record { key = cc; day = cc; amount = cc }
-    by (four q p) = absurd (let g = sym p ∙ e in let z : ◌≡◌ {A = ℕ} 0 1 = cc in omega arith)
-    by (five q p) = absurd (let g = sym p ∙ e in let z : ◌≡◌ {A = ℕ} 0 1 = cc in omega arith)
-    by (one q p) = absurd (let g = sym p ∙ e in let z : ◌≡◌ {A = ℕ} 0 1 = cc in omega arith)
+    by : (c : Kind) → decode_record b ≡ stands c b → Balance b k d a
+    by Closing p = let z = sym p ∙ e in record { key = cc; day = cc; amount = cc }
+    by Movement p = absurd (let g = sym p ∙ e in let z : ◌≡◌ {A = ℕ} 0 1 = cc in omega arith)
+    by Complement p = absurd (let g = sym p ∙ e in let z : ◌≡◌ {A = ℕ} 0 1 = cc in omega arith)
+    by Opening p = absurd (let g = sym p ∙ e in let z : ◌≡◌ {A = ℕ} 0 1 = cc in omega arith)
 
 -- the head that the code puts together
 pub gathered : (o c : List ℕ) {k : Key} {p q : Look} → k ≡ key_at_of o → p ≡ look_of o → q ≡ look_of c
@@ -146,7 +150,7 @@ module _ {f : Form} {b : List ℕ} {s : Statement} (r : Reads (coding_of f) f b 
 
   -- the whole answer
   pub headed : {h : Head} {m : ℕ} → h ≡ head_at (record_at_of b 0) (record_at_of b (length b - (record_size + line_end f))) → m ≡ movements_in (check_of (coding_of f) f b)
-      → ◌≡◌ {A = HeadAnswer} (record { number = 0; «record» = 0; head = h; movements = m }) (head_among s)
+      → ◌≡◌ {A = Summary} (record { head = h; movements = m }) (head_among s)
   unfolding width_of
   headed p q =
       rw (
@@ -156,16 +160,15 @@ module _ {f : Form} {b : List ℕ} {s : Statement} (r : Reads (coding_of f) f b 
         head_held s (record_at_of b 0) (record_at_of b (length b - w)) first_held.whole last_held.whole (opened _ first_held.values) (closed _ last_held.values),
       )
 
-pub not_headed : (f : Form) (b : List ℕ) (k : ℕ) {n r : ℕ} {h : Head} → Refused n r ≡ place_of f b k → h ≡ no_head
-    → ◌≡◌ {A = HeadAnswer} (record { number = n; «record» = r; head = h; movements = 0 }) (head_in f b k)
+pub not_headed : (f : Form) (b : List ℕ) (k : ℕ) {e : Refusal} → Err e ≡ place_of f b k → Err e ≡ head_in f b k
 unfolding head_in
-not_headed f b k e p = rw (p, ← e)
+not_headed f b k e = rw (← e)
 
 -- the count that the check gives
-pub counted : (a : Answer) {s m c : ℕ} → C.Accepted s m c ≡ checked_of a → m ≡ movements_in a
+pub counted : (a : Answer) {n : Counts} → Ok n ≡ checked_of a → n.movements ≡ movements_in a
 counted (accepted x) e = cc
 counted (refused n r) e = absurd (let z : ◌≡◌ {A = ℕ} 0 1 = cc in omega arith)
 
-pub not_counted : (a : Answer) {n r : ℕ} → C.Refused n r ≡ checked_of a → 0 ≡ movements_in a
+pub not_counted : (a : Answer) {e : Refusal} → Err e ≡ checked_of a → 0 ≡ movements_in a
 not_counted (accepted x) e = absurd (let z : ◌≡◌ {A = ℕ} 0 1 = cc in omega arith)
 not_counted (refused n r) e = refl

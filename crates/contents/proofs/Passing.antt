@@ -15,15 +15,18 @@ use Rattle.records.specs.July.{record_size, coding_of}
 use Rattle.records.specs.declared.Look.{Look}
 use Rattle.records.specs.Looks.{look_of}
 use Rattle.records.proofs.Theorems.{reads}
-use Rattle.statements.specs.declared.Checked.TheVariants as C
+use Rattle.std.specs.Prelude.{Ok, Err}
+use Rattle.framing.specs.Refusals.{refusal_of}
+use Rattle.framing.specs.declared.refusals.Refusal.{Refusal}
+use Rattle.grammar.specs.Answer.{Answer, accepted, refused}
+use Rattle.statements.specs.declared.Counts.{Counts}
 use Rattle.statements.specs.Answers.{checked_of}
 use Rattle.readers.specs.Places.{end_after}
 use Rattle.readers.proofs.Cursor.{cursor}
-use Rattle.readers.proofs.Placed.{accepted_of, refused_of_lem}
+use Rattle.readers.proofs.Placed.{accepted_of}
 use Rattle.readers.proofs.Turns.{one_more, last_turn}
 use Rattle.contents.specs.Heads.{record_at_of}
-use Rattle.contents.specs.Earliest.{earlier_of, earliest_from, earliest_of, beginning_of}
-use Rattle.contents.specs.declared.Beginning.TheVariants.{On, Refused}
+use Rattle.contents.specs.Earliest.{earlier_of, earliest_from, earliest_of, beginning_by, beginning_of}
 use Rattle.contents.proofs.Heading.{old_date_at}
 
 -- so many statements are behind, and the day that is kept with the others gives the whole
@@ -66,13 +69,17 @@ module _ (f : Form) (b : List ℕ) where
       sym (ap (earliest_from day) q) ∙ g.rest
 
 -- the whole answer
-pub begun : (f : Form) (b : List ℕ) {s m c d : ℕ} → C.Accepted s m c ≡ checked_of (check_of (coding_of f) f b) → ((ss : List Statement) → Reads (coding_of f) f b ss → d ≡ earliest_of ss)
-    → On d ≡ beginning_of f b
+pub begun : (f : Form) (b : List ℕ) {n : Counts} {d : ℕ} → Ok n ≡ checked_of (check_of (coding_of f) f b) → ((ss : List Statement) → Reads (coding_of f) f b ss → d ≡ earliest_of ss)
+    → Ok d ≡ beginning_of f b
 unfolding beginning_of
 begun f b e g =
     let y = accepted_of (check_of (coding_of f) f b) e in
-    ap On (g (statements_of (coding_of f) f b) (reads f b y)) ∙ sym (rw y)
+    ap Ok (g (statements_of (coding_of f) f b) (reads f b y)) ∙ sym (rw y)
 
-pub not_begun : (f : Form) (b : List ℕ) {n r : ℕ} → C.Refused n r ≡ checked_of (check_of (coding_of f) f b) → Refused n r ≡ beginning_of f b
+pub not_begun : (f : Form) (b : List ℕ) {e : Refusal} → Err e ≡ checked_of (check_of (coding_of f) f b) → Err e ≡ beginning_of f b
 unfolding beginning_of
-not_begun f b e = sym (rw (refused_of_lem (check_of (coding_of f) f b) e))
+not_begun f b {e} = by (check_of (coding_of f) f b)
+  where
+    by : (a : Answer) → Err e ≡ checked_of a → Err e ≡ beginning_by a (statements_of (coding_of f) f b)
+    by (accepted x) p = absurd (let z : ◌≡◌ {A = ℕ} 0 1 = cc in omega arith)
+    by (refused n r) p = let q : e ≡ refusal_of n r = cc in ap Err q

@@ -1,13 +1,13 @@
 -- The earliest old balance date among the statements of a file.
-use Rattle.std.specs.Prelude.{◌||◌, List, [], ◌∷◌, ℕ, eqb, ltb}
+use Rattle.std.specs.Prelude.{Result, Ok, Err, ◌||◌, List, [], ◌∷◌, ℕ, eqb, ltb}
 use Rattle.zones.specs.Choice.{pick}
 use Rattle.framing.specs.declared.Form.{Form}
 use Rattle.grammar.specs.Answer.{Answer, accepted, refused}
 use Rattle.grammar.specs.Statements.{Statement}
 use Rattle.grammar.specs.Files.{statements_of, check_of}
 use Rattle.records.specs.July.{coding_of}
-use Rattle.contents.specs.declared.Beginning.{Beginning}
-use Rattle.contents.specs.declared.Beginning.TheVariants.{On, Refused}
+use Rattle.framing.specs.Refusals.{refusal_of}
+use Rattle.framing.specs.declared.refusals.Refusal.{Refusal}
 
 -- the earlier of a day that is kept and another; 0 is none kept yet
 unfoldable pub earlier_of : (kept day : ℕ) → ℕ
@@ -23,9 +23,9 @@ abbrev pub earliest_of : List Statement → ℕ
 earliest_of ss = earliest_from 0 ss
 
 -- the file's refusals come first
-abbrev pub beginning_by : Answer → List Statement → Beginning
-beginning_by (accepted c) ss = On (earliest_of ss)
-beginning_by (refused n r) ss = Refused n r
+abbrev pub beginning_by : Answer → List Statement → Result ℕ Refusal
+beginning_by (accepted c) ss = Ok (earliest_of ss)
+beginning_by (refused n r) ss = Err (refusal_of n r)
 
-unfoldable pub beginning_of : Form → List ℕ → Beginning
+unfoldable pub beginning_of : Form → List ℕ → Result ℕ Refusal
 beginning_of f b = beginning_by (check_of (coding_of f) f b) (statements_of (coding_of f) f b)

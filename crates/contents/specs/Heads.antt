@@ -1,7 +1,8 @@
 -- The head of a statement, by value.
-use Rattle.std.specs.Prelude.{List, [], ℕ, ◌+◌, ◌-◌, ltb, length, take, drop, get_or, pos}
+use Rattle.std.specs.Prelude.{Result, Ok, Err, List, [], ℕ, ◌+◌, ◌-◌, ltb, length, take, drop, get_or, pos}
 use Rattle.zones.specs.Choice.{pick}
 use Rattle.framing.specs.declared.Form.{Form}
+use Rattle.framing.specs.declared.refusals.Refusal.{Refusal}
 use Rattle.grammar.specs.Answer.{Answer, accepted, refused}
 use Rattle.grammar.specs.Statements.{Statement}
 use Rattle.grammar.specs.Files.{statements_of}
@@ -11,9 +12,8 @@ use Rattle.records.specs.Looks.{look_of}
 use Rattle.fields.specs.Rows.{no_key, key_at_of}
 use Rattle.readers.specs.Places.{place_of}
 use Rattle.readers.specs.declared.Place.{Place}
-use Rattle.readers.specs.declared.Place.TheVariants.{At, Refused}
 use Rattle.contents.specs.declared.Head.{Head}
-use Rattle.contents.specs.declared.HeadAnswer.{HeadAnswer}
+use Rattle.contents.specs.declared.Summary.{Summary}
 
 -- the record's bytes at a place, none where there are not so many
 unfoldable pub record_at_of : List ℕ → ℕ → List ℕ
@@ -29,20 +29,20 @@ head_from s =
       new_balance = s.new_balance;
     }
 
--- on refusal every number and byte is 0
+-- where there is no statement every number and byte is 0
 abbrev pub no_head : Head
 no_head = record { key = no_key; old_date = 0; old_balance = pos 0; new_date = 0; new_balance = pos 0 }
 
 -- the head with its movement count
-abbrev pub head_among : Statement → HeadAnswer
-head_among s = record { number = 0; «record» = 0; head = head_from s; movements = length s.movements }
+abbrev pub head_among : Statement → Summary
+head_among s = record { head = head_from s; movements = length s.movements }
 
 -- the file's refusals, then 16
-abbrev pub head_by : Place → Statement → HeadAnswer
-head_by (At first len) s = head_among s
-head_by (Refused n r) s = record { number = n; «record» = r; head = no_head; movements = 0 }
+abbrev pub head_by : Result Place Refusal → Statement → Result Summary Refusal
+head_by (Ok p) s = Ok (head_among s)
+head_by (Err e) s = Err e
 
-unfoldable pub head_in : Form → List ℕ → ℕ → HeadAnswer
+unfoldable pub head_in : Form → List ℕ → ℕ → Result Summary Refusal
 head_in f b k = head_by (place_of f b k) (get_or (statements_of (coding_of f) f b) (k - 1) no_statement)
 
 -- the head that two records hold

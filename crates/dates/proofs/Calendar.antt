@@ -4,13 +4,15 @@ use mathlib.Core.Bool.{Bool, true, false}
 use Prim.Native.Nat.{ℕ, suc, ◌+◌, ◌-◌, ◌*◌, ◌/◌, ◌%◌, ◌<◌, ◌≤◌}
 use native.Mathlib.Decide.{dec_lt}
 use native.Mathlib.Omega.{arith}
-use lib.Dec.{eqb}
-use borrow.Author.Tests.{le-ltb, eqb-true, eqb-false}
+use lib.Dec.{eqb, ltb}
+use borrow.Author.Tests.{eqb-true, eqb-false}
 use Rattle.zones.specs.Choice.{pick}
+use Rattle.std.specs.Prelude.{Option, Some, None, unwrap_or}
+use Rattle.dates.specs.Answers.{Ordinal, OfOrdinal}
 use Rattle.dates.specs.Days.{is_day}
 use Rattle.dates.specs.Ordinals.{before_month, before_year, all_days, ordinal_of, of_ordinal}
 use Rattle.dates.proofs.Months.{years, year_long, guess_first, guess_last}
-use Rattle.dates.proofs.Ordinals.{parts, ordinal_is, found}
+use Rattle.dates.proofs.Ordinals.{parts, part_month, ordinal_is, found}
 
 at_most : (t : Bool) → 365 + pick t 1 0 ≤ 366
 at_most true = omega arith
@@ -39,10 +41,6 @@ module _ (y rest : ℕ) (h : y < 100) (l : rest < before_month (1980 + y) 13) wh
   month_here b e g =
       let f : suc (rest / 32 + 1) ≡ rest / 32 + 1 + 1 = omega arith in
       (omega (arith, guess_first (1980 + y) (rest / 32) quotient), rw f (omega arith), omega (arith, quotient))
-
-pub none_found : (n : ℕ) → all_days ≤ n → 0 ≡ of_ordinal n
-unfolding of_ordinal
-none_found n h = rw (le-ltb n all_days h)
 
 year_by : (n y : ℕ) (t : Bool) → eqb (y % 4) 0 ≡ t → y * 1461 ≤ n * 4 → n * 4 < y * 1461 + 1461 → n - (y * 365 + (y + 3) / 4) < 365 + pick t 1 0
 year_by n y true e a b =
@@ -80,3 +78,40 @@ pub ordinal_code : (k : ℕ) → is_day k ≡ true → (b : ℕ) → b ≡ befor
 ordinal_code k h b e =
     let p = parts k h in
     omega (arith, ordinal_is k h, e, years (k / 10000 - 1980) (omega (arith, p.high)))
+
+pub ruleset month_found = (quotient, month_next, month_here)
+
+pub ruleset day_of_ordinal = (year_found, day_found)
+
+-- what the code takes apart of a day's number
+module _ (k : ℕ) (h : is_day k ≡ true) where
+  pub year_low : 1980 ≤ k / 10000
+  year_low = (parts k h).low
+
+  pub year_high : k / 10000 - 1980 < 100
+  year_high = let p = parts k h in omega (arith, p.low, p.high)
+
+  pub month_low : k / 100 % 100 < 14
+  month_low = let p = parts k h in omega (arith, part_month k p)
+
+  pub day_low : 1 ≤ k % 100
+  day_low = (parts k h).first
+
+pub ruleset ordinal_found = (year_low, year_high, month_low, day_low, ordinal_code)
+
+-- with 36,525 for none, and with 0
+pub ordinal_or : {k : ℕ} {r : Option ℕ} → Ordinal k r → unwrap_or r all_days ≡ ordinal_of k
+unfolding ordinal_of
+ordinal_or {k} g = rw g.answer (by (is_day k) refl)
+  where
+    by : (t : Bool) → is_day k ≡ t → unwrap_or (pick t (Some (ordinal_of k)) None) all_days ≡ ordinal_of k
+    by true e = refl
+    by false e = rw e
+
+pub day_or : {n : ℕ} {r : Option ℕ} → OfOrdinal n r → unwrap_or r 0 ≡ of_ordinal n
+unfolding of_ordinal
+day_or {n} g = rw g.answer (by (ltb n all_days) refl)
+  where
+    by : (t : Bool) → ltb n all_days ≡ t → unwrap_or (pick t (Some (of_ordinal n)) None) 0 ≡ of_ordinal n
+    by true e = refl
+    by false e = rw e

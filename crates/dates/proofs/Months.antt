@@ -134,3 +134,5 @@ month_some y m h = some (is_leap y) m h
 pub first_year : before_year 100 ≡ all_days
 unfolding before_year before_month days_in
 first_year = refl
+
+pub ruleset counted = (months, small)

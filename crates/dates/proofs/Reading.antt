@@ -11,15 +11,15 @@ use Rattle.zones.specs.Class.{digit, all}
 use Rattle.zones.specs.Answers.{Tested, Number}
 use Rattle.zones.proofs.Called.{number_value, number_below}
 use Rattle.dates.specs.Days.{year_of, day_of, date_of}
-use Rattle.dates.specs.declared.Date.TheVariants.{NoDay}
+use Rattle.std.specs.Prelude.{None}
 use Rattle.dates.proofs.RoundTrip.{pair, pair_digits}
 
 module _ (s : List ℕ) where
-  pub read_short : (length s ≡ 6 → ⊥) → NoDay ≡ date_of s
+  pub read_short : (length s ≡ 6 → ⊥) → None ≡ date_of s
   unfolding date_of
   read_short h = rw (ne_eqb (length s) 6 h)
 
-  pub read_undigit : {r : Bool} → Tested digit s r → r ≡ false → NoDay ≡ date_of s
+  pub read_undigit : {r : Bool} → Tested digit s r → r ≡ false → None ≡ date_of s
   unfolding date_of
   read_undigit t e = rw (sym t.answer ∙ e, and-false (eqb (length s) 6))
 
@@ -43,3 +43,15 @@ module _ (s : List ℕ) where
           eq-eqb (length s) 6 l,
           digits,
         )
+
+module _ (s : List ℕ) {v : ℕ} {r : Bool} (l : length s ≡ 6) (t : Tested digit s r) (e : r ≡ true) where
+  pub first_small : Number (take 2 s) v → v < 100
+  first_small = pair_small s l t e 0 (omega arith)
+
+  pub middle_small : Number (take 2 (drop 2 s)) v → v < 100
+  middle_small = pair_small s l t e 2 (omega arith)
+
+  pub last_small : Number (take 2 (drop 4 s)) v → v < 100
+  last_small = pair_small s l t e 4 (omega arith)
+
+pub ruleset reading = (first_small, middle_small, read_short, read_undigit, read_whole)

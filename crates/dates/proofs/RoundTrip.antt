@@ -16,15 +16,14 @@ use Rattle.zones.proofs.Bools.{and_left, and_right, both}
 use Rattle.zones.proofs.Every.{every_append, every_take, every_drop}
 use Rattle.zones.proofs.Decimal.{value_below, digits_value, digits_all, length_digits, value_digits}
 use Rattle.dates.specs.Days.{year_of, exists, day_number, day_of, date_of, is_day, date_text}
-use Rattle.dates.specs.declared.Date.{Date}
-use Rattle.dates.specs.declared.Date.TheVariants.{Day, NoDay}
+use Rattle.std.specs.Prelude.{Option, Some, None}
 
 -- a choice that came out a day
-was_day : (t : Bool) (a : Date) (k : ℕ) → pick t a NoDay ≡ Day k → (t ≡ true) × (a ≡ Day k)
+was_day : (t : Bool) (a : Option ℕ) (k : ℕ) → pick t a None ≡ Some k → (t ≡ true) × (a ≡ Some k)
 was_day true a k e = (refl, e)
 was_day false a k e = let z : ◌≡◌ {A = ℕ} 0 1 = cc in absurd (omega arith)
 
-same_number : (m k : ℕ) → Day m ≡ Day k → k ≡ m
+same_number : (m k : ℕ) → Some m ≡ Some k → k ≡ m
 same_number m k e = cc
 
 -- two digits of a year
@@ -92,7 +91,7 @@ record Passed (s : List ℕ) (k : ℕ) : Type 0 where
   real : exists (year_of (value_of (take 2 (drop 4 s)))) (value_of (take 2 (drop 2 s))) (value_of (take 2 s)) ≡ true
   number : k ≡ day_number (year_of (value_of (take 2 (drop 4 s)))) (value_of (take 2 (drop 2 s))) (value_of (take 2 s))
 
-passed : (s : List ℕ) (k : ℕ) → date_of s ≡ Day k → Passed s k
+passed : (s : List ℕ) (k : ℕ) → date_of s ≡ Some k → Passed s k
 unfolding date_of day_of
 passed s k e =
     let o = was_day (eqb (length s) 6 && all digit s) _ k e in
@@ -105,7 +104,7 @@ passed s k e =
     }
 
 -- what was read is written as it stood
-pub text_read : (s : List ℕ) (k : ℕ) → date_of s ≡ Day k → date_text k ≡ s
+pub text_read : (s : List ℕ) (k : ℕ) → date_of s ≡ Some k → date_text k ≡ s
 unfolding date_text
 text_read s k e =
     let p = passed s k e in
@@ -123,7 +122,7 @@ text_read s k e =
     (pairs s p.wide p.digits)
 
 -- and is the number of a day
-pub read_day : (s : List ℕ) (k : ℕ) → date_of s ≡ Day k → is_day k ≡ true
+pub read_day : (s : List ℕ) (k : ℕ) → date_of s ≡ Some k → is_day k ≡ true
 unfolding is_day
 read_day s k e =
     let p = passed s k e in
@@ -162,7 +161,7 @@ text_pairs k =
     }
 
 -- what is written reads back
-pub read_text : (k : ℕ) → is_day k ≡ true → date_of (date_text k) ≡ Day k
+pub read_text : (k : ℕ) → is_day k ≡ true → date_of (date_text k) ≡ Some k
 unfolding date_of day_of is_day
 read_text k h =
     let d = k % 100 in

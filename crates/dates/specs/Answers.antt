@@ -1,11 +1,10 @@
 -- The contract of each public function: its one answer, and the one final content of what is lent.
-use Rattle.std.specs.Prelude.{◌≡◌, Bool, List, ℕ}
+use Rattle.std.specs.Prelude.{◌≡◌, Bool, List, ℕ, Option}
 use Rattle.dates.specs.Days.{date_of, is_day, can_put, put_date}
-use Rattle.dates.specs.Ordinals.{ordinal_of, of_ordinal}
-use Rattle.dates.specs.declared.Date.{Date}
+use Rattle.dates.specs.Ordinals.{ordinal_in, day_at}
 
 -- read
-pub record Read (s : List ℕ) (r : Date) : Type 0 where
+pub record Read (s : List ℕ) (r : Option ℕ) : Type 0 where
   pub answer : r ≡ date_of s
 
 -- is_day
@@ -18,9 +17,9 @@ pub record Put (k : ℕ) (out : List ℕ) (r : Bool) (out' : List ℕ) : Type 0 
   pub content : out' ≡ put_date k out
 
 -- ordinal
-pub record Ordinal (k r : ℕ) : Type 0 where
-  pub answer : r ≡ ordinal_of k
+pub record Ordinal (k : ℕ) (r : Option ℕ) : Type 0 where
+  pub answer : r ≡ ordinal_in k
 
 -- of_ordinal
-pub record OfOrdinal (n r : ℕ) : Type 0 where
-  pub answer : r ≡ of_ordinal n
+pub record OfOrdinal (n : ℕ) (r : Option ℕ) : Type 0 where
+  pub answer : r ≡ day_at n

@@ -1,10 +1,8 @@
 -- Dates DDMMYY: which exist, and their numbers YYYYMMDD.
-use Rattle.std.specs.Prelude.{◌≡◌, ◌⊎◌, Bool, ◌&&◌, ◌||◌, not, List, [], ◌∷◌, ◌++◌, ℕ, ◌+◌, ◌*◌, ◌/◌, ◌%◌, ◌<◌, leb, ltb, eqb, length, get_or, take, drop}
+use Rattle.std.specs.Prelude.{◌≡◌, ◌⊎◌, Bool, ◌&&◌, ◌||◌, not, List, [], ◌∷◌, ◌++◌, ℕ, ◌+◌, ◌*◌, ◌/◌, ◌%◌, ◌<◌, leb, ltb, eqb, length, get_or, take, drop, Option, Some, None}
 use Rattle.zones.specs.Choice.{pick}
 use Rattle.zones.specs.Class.{digit, all}
 use Rattle.zones.specs.Number.{value_of, digits_of}
-use Rattle.dates.specs.declared.Date.{Date}
-use Rattle.dates.specs.declared.Date.TheVariants.{Day, NoDay}
 
 -- YY 00 to 79 is 2000 to 2079, 80 to 99 is 1980 to 1999 (H)
 unfoldable pub year_of : ℕ → ℕ
@@ -34,20 +32,20 @@ abbrev pub Before : (y m d y' m' d' : ℕ) → Type 0
 Before y m d y' m' d' = (y < y') ⊎ ((y ≡ y') × ((m < m') ⊎ ((m ≡ m') × (d < d'))))
 
 -- the number of a day that exists
-unfoldable pub day_of : (year month day : ℕ) → Date
-day_of y m d = pick (exists y m d) (Day (day_number y m d)) NoDay
+unfoldable pub day_of : (year month day : ℕ) → Option ℕ
+day_of y m d = pick (exists y m d) (Some (day_number y m d)) None
 
 -- six digits, and a day that exists
-unfoldable pub date_of : List ℕ → Date
+unfoldable pub date_of : List ℕ → Option ℕ
 date_of s =
     pick (eqb (length s) 6 && all digit s)
     (day_of (year_of (value_of (take 2 (drop 4 s)))) (value_of (take 2 (drop 2 s))) (value_of (take 2 s)))
-    NoDay
+    None
 
 -- 9, or no refusal and the number; of what is no six digits 8 is given before, by the zone's own test
-abbrev pub paper_date : Date → ℕ × ℕ
-paper_date (Day k) = (0, k)
-paper_date NoDay = (9, 0)
+abbrev pub paper_date : Option ℕ → ℕ × ℕ
+paper_date (Some k) = (0, k)
+paper_date None = (9, 0)
 
 -- a number YYYYMMDD of a day that exists, in the years 1980 to 2079
 unfoldable pub is_day : ℕ → Bool

@@ -1,5 +1,5 @@
 -- Days as ordinals: how many days lie between 1 January 1980 and a day.
-use Rattle.std.specs.Prelude.{ℕ, zero, suc, ◌+◌, ◌-◌, ◌/◌, ◌%◌, ltb}
+use Rattle.std.specs.Prelude.{ℕ, zero, suc, ◌+◌, ◌-◌, ◌/◌, ◌%◌, ltb, Option, Some, None}
 use Rattle.zones.specs.Choice.{pick}
 use Rattle.dates.specs.Days.{days_in, day_number, is_day}
 
@@ -29,6 +29,10 @@ last_day = 20791231
 unfoldable pub ordinal_of : ℕ → ℕ
 ordinal_of k = pick (is_day k) (days_before (k / 10000) (k / 100 % 100) (k % 100)) all_days
 
+-- the ordinal of a day; none for a number that is none
+abbrev pub ordinal_in : ℕ → Option ℕ
+ordinal_in k = pick (is_day k) (Some (ordinal_of k)) None
+
 -- the day after a day
 abbrev pub next_in : (year month day : ℕ) → ℕ
 next_in y m d = pick (ltb d (days_in y m)) (day_number y m (suc d)) (pick (ltb m 12) (day_number y (suc m) 1) (day_number (suc y) 1 1))
@@ -44,3 +48,7 @@ day_after (suc n) = next_day (day_after n)
 -- the day of an ordinal; 0, which is no day, for a number that is none
 unfoldable pub of_ordinal : ℕ → ℕ
 of_ordinal n = pick (ltb n all_days) (day_after n) 0
+
+-- the day of an ordinal; none for a number that is none
+abbrev pub day_at : ℕ → Option ℕ
+day_at n = pick (ltb n all_days) (Some (of_ordinal n)) None

@@ -1,24 +1,43 @@
 -- The body that an entry names.
 use mathlib.Core.Path.{◌≡◌, refl, sym}
-use mathlib.Core.Bool.{Bool, true, false, not}
+use mathlib.Core.Bool.{Bool, true, false}
 use mathlib.Core.List.{List, []}
 use Prim.Native.Nat.{ℕ, ◌+◌, ◌-◌, ◌*◌, ◌^◌, ◌<◌, ◌≤◌}
 use native.Mathlib.Nat.{add-sub_cancel_left, pow-le-pow_right}
 use native.Mathlib.Omega.{arith}
 use lib.Dec.{eqb, leb, lit<}
 use lib.ListN.{length, take, drop, length-take}
-use borrow.Author.Tests.{le-leb, lt-leb, not-true, not-false}
+use borrow.Author.Tests.{le-leb, lt-leb}
 use Rattle.zones.specs.Choice.{pick}
 use Rattle.zones.specs.Number.{value_of}
 use Rattle.zones.proofs.Decimal.{value_most}
 use Rattle.layouts.specs.Zone.{part}
 use Rattle.records.specs.July.{record_size}
+use Rattle.std.specs.Prelude.{Some, None}
 use Rattle.entries.specs.declared.Entry.{Entry}
 use Rattle.entries.specs.Answers.{EntryAt}
-use Rattle.entries.specs.Entries.{entry_size, most_entries, no_entry, line_at, is_used, fields_of, entry_bytes, entry_in, body_at}
+use Rattle.entries.specs.Entries.{entry_size, most_entries, no_entry, line_at, is_used, Fields, fields_of, used_entry, entry_bytes, entry_in, body_at}
+
+-- what an entry says that the code finds
+abbrev pub fields_from : Entry → Fields
+fields_from x = record { used = true; first = x.first; records = x.records }
+
+pub used_found : {y : Fields} {x : Entry} → Some x ≡ used_entry y → fields_from x ≡ y
+used_found {y} {x} p = by y.used y.first y.records p
+  where
+    by : (u : Bool) (f n : ℕ) → Some x ≡ used_entry (record { used = u; first = f; records = n }) → fields_from x ≡ record { used = u; first = f; records = n }
+    by true f n q = cc
+    by false f n q = cc
+
+pub none_found : (y : Fields) → None ≡ used_entry y → y.used ≡ false
+none_found y p = by y.used y.first y.records p
+  where
+    by : (u : Bool) (f n : ℕ) → None ≡ used_entry (record { used = u; first = f; records = n }) → u ≡ false
+    by true f n q = cc
+    by false f n q = refl
 
 -- what six and four bytes are worth at most, whatever they are
-pub record Small (x : Entry) : Type 0 where
+pub record Small (x : Fields) : Type 0 where
   pub first : x.first ≤ 1666665
   pub records : x.records ≤ 16665
 
@@ -37,27 +56,28 @@ fields_small x = by (eqb (length x) entry_size)
         }
     by false = record { first = omega arith; records = omega arith }
 
-pub entry_small : {j : List ℕ} {e : ℕ} {x : Entry} → EntryAt j e x → Small x
+pub entry_small : {j : List ℕ} {e : ℕ} {x : Entry} → EntryAt j e (Some x) → Small (fields_from x)
 unfolding entry_in
-entry_small {j} {e} p = rw p.answer (by (leb most_entries e))
+entry_small {j} {e} p = rw (used_found p.answer) (by (leb most_entries e))
   where
     by : (t : Bool) → Small (pick t no_entry (fields_of (entry_bytes j e)))
     by true = record { first = omega arith; records = omega arith }
     by false = fields_small (entry_bytes j e)
 
 -- at the code's returns
-module _ (j : List ℕ) (e : ℕ) {x : Entry} (p : x ≡ entry_in j e) where
-  pub none_unused : not x.used ≡ true → [] ≡ body_at j e
+module _ (j : List ℕ) (e : ℕ) where
+  pub none_unused : None ≡ used_entry (entry_in j e) → [] ≡ body_at j e
   unfolding body_at
-  none_unused h = sym (rw (← p, not-true x.used h))
+  none_unused p = sym (rw (none_found (entry_in j e) p))
 
-  pub none_short : not x.used ≡ false → length j < line_at x.first + record_size * x.records → [] ≡ body_at j e
-  unfolding body_at
-  none_short h l = sym (rw (← p, not-false x.used h, lt-leb (line_at x.first + record_size * x.records) (length j) l))
+  module _ {x : Entry} (p : Some x ≡ used_entry (entry_in j e)) where
+    pub none_short : length j < line_at x.first + record_size * x.records → [] ≡ body_at j e
+    unfolding body_at
+    none_short l = sym (rw (← used_found p, lt-leb (line_at x.first + record_size * x.records) (length j) l))
 
-  pub body_there : not x.used ≡ false → line_at x.first + record_size * x.records ≤ length j
-      → take (line_at x.first + record_size * x.records - line_at x.first) (drop (line_at x.first) j) ≡ body_at j e
-  unfolding body_at
-  body_there h l =
-      rw (add-sub_cancel_left (line_at x.first) (record_size * x.records))
-      (sym (rw (← p, not-false x.used h, le-leb (line_at x.first + record_size * x.records) (length j) l)))
+    pub body_there : line_at x.first + record_size * x.records ≤ length j
+        → take (line_at x.first + record_size * x.records - line_at x.first) (drop (line_at x.first) j) ≡ body_at j e
+    unfolding body_at
+    body_there l =
+        rw (add-sub_cancel_left (line_at x.first) (record_size * x.records))
+        (sym (rw (← used_found p, le-leb (line_at x.first + record_size * x.records) (length j) l)))

@@ -1,12 +1,12 @@
 -- The row of an entry, as the code writes it.
 use mathlib.Core.Path.{◌≡◌, sym, ap, ◌∙◌}
+use mathlib.Core.Bool.{true, false}
 use mathlib.Core.List.{List, [], ◌∷◌, ◌++◌, append_assoc, append-nil}
-use Prim.Native.Nat.{ℕ, ◌+◌, ◌-◌, ◌*◌, ◌<◌, ◌≤◌}
-use native.Mathlib.Nat.{add-sub_cancel_left}
+use Prim.Native.Nat.{ℕ}
 use native.Mathlib.Omega.{arith}
 use lib.ListN.{length, take, drop, length-take}
 use lib.Seq.{take_at, drop_at, drop-drop}
-use borrow.Author.Tests.{eq-eqb, ne_eqb, lt-ltb, le-ltb, le-leb, lt-leb}
+use borrow.Author.Tests.{eq-eqb, ne_eqb}
 use Rattle.zones.specs.Number.{digits_of}
 use Rattle.zones.specs.Pieces.{flat}
 use Rattle.zones.proofs.Decimal.{length_digits}
@@ -14,7 +14,7 @@ use Rattle.zones.proofs.Pasted.{pasted, filled}
 use Rattle.dates.specs.Days.{date_of}
 use Rattle.layouts.specs.Zone.{part, day_in}
 use Rattle.records.specs.July.{record_size, date_in}
-use Rattle.entries.specs.Entries.{most_entries, entry_size, row_size, key_text, dates_text, place_text, entry_text, row_of, row_put}
+use Rattle.entries.specs.Entries.{entry_size, entry_bytes, entry_there, row_size, key_text, dates_text, place_text, entry_text, row_of, row_put}
 use Rattle.entries.proofs.Written.{length_zone, length_key}
 
 -- key and dates, each where the other ends
@@ -34,22 +34,13 @@ module _ (j : List ℕ) (e : ℕ) (dst : List ℕ) where
   other_room h = sym (rw (ne_eqb (length dst) row_size h))
 
   module _ (l : length dst ≡ row_size) where
-    pub past_all : most_entries ≤ e → dst ≡ row_put j e dst
+    pub not_there : entry_there j e ≡ false → dst ≡ row_put j e dst
     unfolding row_put
-    past_all h = sym (rw (eq-eqb (length dst) row_size l, le-ltb e most_entries h))
+    not_there h = sym (rw (eq-eqb (length dst) row_size l, h))
 
-    module _ (m : e < most_entries) where
-      pub not_there : length j < entry_size * e + entry_size → dst ≡ row_put j e dst
-      unfolding row_put
-      not_there h = sym (rw (eq-eqb (length dst) row_size l, lt-ltb e most_entries m, lt-leb (entry_size * e + entry_size) (length j) h))
-
-      pub written_there : {r : List ℕ} → entry_size * e + entry_size ≤ length j
-          → r ≡ row_of (take (entry_size * e + entry_size - entry_size * e) (drop (entry_size * e) j)) → r ≡ row_put j e dst
-      unfolding row_put
-      written_there h p =
-          p
-          ∙ rw (add-sub_cancel_left (entry_size * e) entry_size)
-          (sym (rw (eq-eqb (length dst) row_size l, lt-ltb e most_entries m, le-leb (entry_size * e + entry_size) (length j) h)))
+    pub written_there : {r : List ℕ} → entry_there j e ≡ true → r ≡ row_of (entry_bytes j e) → r ≡ row_put j e dst
+    unfolding row_put
+    written_there h p = p ∙ sym (rw (eq-eqb (length dst) row_size l, h))
 
 -- the row of an entry that was written: its key and its dates as in the 01 and the 07
 module _ (first n : ℕ) (o c : List ℕ) (h : length o ≡ record_size) (k : length c ≡ record_size) where

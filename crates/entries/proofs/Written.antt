@@ -1,15 +1,15 @@
 -- An entry as the code writes it, and what is read of one.
 use mathlib.Core.Path.{◌≡◌, refl, sym, ap, ◌∙◌}
-use mathlib.Core.Bool.{Bool, true, false, not}
+use mathlib.Core.Bool.{Bool, true, false, not, ◌&&◌}
 use mathlib.Core.List.{List, [], ◌∷◌, ◌++◌, append_assoc, append-nil}
-use Prim.Native.Nat.{ℕ, ◌+◌, ◌-◌, ◌*◌, ◌^◌, ◌<◌, ◌≤◌}
-use native.Mathlib.Nat.{add-sub_cancel_left}
+use Prim.Native.Nat.{ℕ, ◌+◌, ◌*◌, ◌^◌, ◌<◌, ◌≤◌}
 use native.Mathlib.Omega.{arith}
-use lib.Dec.{eqb}
+use lib.Dec.{eqb, leb, ltb}
 use lib.ListN.{length, take, drop, get_or, replicate, length-take, length-drop, length-append}
-use lib.Seq.{take_at, drop_at, drop-drop, get_or-drop, get_or-take}
-use borrow.Author.Tests.{eq-eqb, ne_eqb, le-leb, lt-leb}
+use lib.Seq.{take_at, drop_at, drop-drop, get_or-drop, get_or-take, length-take-le}
+use borrow.Author.Tests.{eq-eqb, ne_eqb, le-leb, lt-leb, ltb-true, ltb-false, leb-true, leb-false}
 use Rattle.zones.specs.Class.{digit, in_class}
+use Rattle.zones.proofs.Bools.{and_left, and_right}
 use Rattle.zones.proofs.Every.{in_range, every_at}
 use Rattle.zones.specs.Choice.{pick}
 use Rattle.zones.specs.Number.{value_of, digits_of}
@@ -21,8 +21,9 @@ use Rattle.layouts.specs.Zone.{part, day_in}
 use Rattle.records.specs.July.{record_size, date_in, canon_record}
 use Rattle.records.proofs.Canon.{front_kept}
 use Rattle.records.proofs.Lawful.{july_lawful}
+use Rattle.std.specs.Prelude.{Option, Some, None}
 use Rattle.entries.specs.declared.Entry.{Entry}
-use Rattle.entries.specs.Entries.{entry_size, key_text, dates_text, place_text, entry_text, entry_put, is_used, fields_of, most_entries, no_entry, entry_bytes, entry_in}
+use Rattle.entries.specs.Entries.{entry_size, key_text, dates_text, place_text, entry_text, entry_put, is_used, fields_of, used_entry, most_entries, no_entry, entry_bytes, entry_there, entry_in}
 
 -- a zone of a whole record is as long as its positions say
 pub length_zone : (n a : ℕ) (r : List ℕ) → length r ≡ record_size → a + n ≤ record_size → length (take n (drop a r)) ≡ n
@@ -152,24 +153,41 @@ entry_kept first n o c x h k =
     rw ((july_lawful.alike o h).sized, (july_lawful.alike c k).sized, key_kept o h, date_kept o h, date_kept c k)
 
 -- at the code's returns
-pub fields_read : (x : List ℕ) {a b : ℕ} → length x ≡ entry_size → a ≡ value_of (part 38 43 x) → b ≡ value_of (part 44 47 x)
-    → ◌≡◌ {A = Entry} (record { used = is_used x; first = a; records = b }) (fields_of x)
-unfolding fields_of
-fields_read x l p q = rw (eq-eqb (length x) entry_size l, p, q)
+module _ (x : List ℕ) (l : length x ≡ entry_size) where
+  pub blank_read : get_or x 43 0 ≡ 32 → None ≡ used_entry (fields_of x)
+  unfolding fields_of
+  blank_read h = sym (rw (eq-eqb (length x) entry_size l, h))
+
+  pub fields_read : {a b : ℕ} → (get_or x 43 0 ≡ 32 → ⊥) → a ≡ value_of (part 38 43 x) → b ≡ value_of (part 44 47 x)
+      → ◌≡◌ {A = Option Entry} (Some (record { first = a; records = b })) (used_entry (fields_of x))
+  unfolding fields_of
+  fields_read h p q = rw (eq-eqb (length x) entry_size l, ne_eqb (get_or x 43 0) 32 h, p, q)
 
 module _ (j : List ℕ) (e : ℕ) where
-  pub none_past : most_entries ≤ e → no_entry ≡ entry_in j e
-  unfolding entry_in
-  none_past h = sym (rw (le-leb most_entries e h))
-
-  pub none_short : e < most_entries → length j < entry_size * e + entry_size → no_entry ≡ entry_in j e
+  pub none_there : entry_there j e ≡ false → None ≡ used_entry (entry_in j e)
   unfolding entry_in fields_of
-  none_short h s =
-      sym (rw (lt-leb most_entries e h, ne_eqb (length (entry_bytes j e)) entry_size (λ g. omega (arith, g, length-take entry_size (drop (entry_size * e) j), length-drop (entry_size * e) j))))
+  none_there = by (ltb e most_entries) (leb (entry_size * e + entry_size) (length j)) refl refl
+    where
+      by : (t u : Bool) → ltb e most_entries ≡ t → leb (entry_size * e + entry_size) (length j) ≡ u → (t && u) ≡ false → None ≡ used_entry (entry_in j e)
+      by false u p q h = sym (rw (le-leb most_entries e (ltb-false e most_entries p)))
+      by true false p q h =
+          let s : length j < entry_size * e + entry_size = leb-false (entry_size * e + entry_size) (length j) q in
+          sym
+          (rw (
+            lt-leb most_entries e (ltb-true e most_entries p),
+            ne_eqb (length (entry_bytes j e)) entry_size (λ g. omega (arith, g, length-take entry_size (drop (entry_size * e) j), length-drop (entry_size * e) j)),
+          ))
+      by true true p q h = cc
 
-  pub read_there : {r : Entry} → e < most_entries → r ≡ fields_of (take (entry_size * e + entry_size - entry_size * e) (drop (entry_size * e) j)) → r ≡ entry_in j e
-  unfolding entry_in
-  read_there h p = p ∙ rw (add-sub_cancel_left (entry_size * e) entry_size) (sym (rw (lt-leb most_entries e h)))
+  module _ (h : entry_there j e ≡ true) where
+    pub length_there : length (entry_bytes j e) ≡ entry_size
+    length_there =
+        let s = leb-true (entry_size * e + entry_size) (length j) (and_right (ltb e most_entries) _ h) in
+        length-take-le entry_size (drop (entry_size * e) j) (omega (arith, length-drop (entry_size * e) j))
+
+    pub read_there : {r : Option Entry} → r ≡ used_entry (fields_of (entry_bytes j e)) → r ≡ used_entry (entry_in j e)
+    unfolding entry_in
+    read_there p = p ∙ sym (rw (lt-leb most_entries e (ltb-true e most_entries (and_left (ltb e most_entries) _ h))))
 
 -- nothing is written where a length is another
 module _ (first n : ℕ) (o c x : List ℕ) where

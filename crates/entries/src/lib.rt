@@ -1,14 +1,11 @@
 // The journal's table of contents: an entry written, what it says of its body and of its statement, and the body that it names. Only `put_entry`, `entry_fields` and `put_fields` know an entry's positions.
 #![tactic(auto)]
 
-ghost use Rattle.std.specs.Prelude.{◌≡◌, length};
-ghost use Rattle.dates.specs.Days.{date_of};
-ghost use Rattle.layouts.specs.Zone.{day_in};
+ghost use Rattle.std.specs.Prelude.{◌≡◌, true, false, length, MatchOption};
 ghost use Rattle.records.specs.July.{record_size};
-ghost use Rattle.entries.specs.Entries.{entry_size, row_size, key_text, dates_text, place_text, fields_of, row_of};
+ghost use Rattle.entries.specs.Entries.{entry_size, row_size, key_text, dates_text, place_text, fields_of, used_entry, entry_bytes, entry_there, row_of};
 ghost use Rattle.entries.specs.Answers.{PutEntry, EntryAt, PutRow, BodyAt};
 
-use dates::Date;
 use records::RECORD;
 
 // The most entries of a journal.
@@ -23,10 +20,9 @@ pub const CONTENTS: usize = MOST_ENTRIES * ENTRY;
 // The bytes of a row: what an entry says of its statement.
 pub const ROW: usize = 41;
 
-// Whether an entry is used, its body's first line, and its number of records.
+// What a used entry says: its body's first line, and its number of records.
 #[derive(Clone, Copy)]
 pub struct Entry {
-    pub used: bool,
     pub first: usize,
     pub records: usize,
 }
@@ -83,46 +79,36 @@ pub fn put_entry(dst: &mut [u8], first: usize, records: usize, opening: &[u8], c
 // The place, from 0, of the byte that is blank in an unused entry alone.
 const USED: usize = 43;
 
-// What an entry says, whatever its bytes.
-fn entry_fields(x: &[u8]) -> Entry
+// What an entry says, whatever its bytes. None where it is unused.
+fn entry_fields(x: &[u8]) -> Option<Entry>
     requires { length x.now ≡ entry_size }
-    ensures { result ≡ fields_of x.now }
+    ensures { result ≡ used_entry (fields_of x.now) }
 {
-    Entry {
-        used: x[USED] != b' ',
+    if x[USED] == b' ' {
+        return None;
+    }
+    Some(Entry {
         first: zones::number(&x[37..43]) as usize,
         records: zones::number(&x[43..47]) as usize,
-    }
+    })
 }
 
-// Entry e, from 0. Unused where there is none.
-pub fn entry_at(journal: &[u8], e: usize) -> Entry
-    ensures { EntryAt journal.now e result }
+// The bytes of entry e, from 0. None where there is none.
+fn bytes_at(journal: &[u8], e: usize) -> Option<&[u8]>
+    ensures { MatchOption result (entry_there journal.now e ≡ false) (λ x. (entry_there journal.now e ≡ true) × (x.now ≡ entry_bytes journal.now e)) }
 {
-    let none = Entry {
-        used: false,
-        first: 0,
-        records: 0,
-    };
     if MOST_ENTRIES <= e {
-        return none;
+        return None;
     }
     let a = ENTRY * e;
-    let z = a + ENTRY;
-    if journal.len() < z {
-        return none;
-    }
-    entry_fields(&journal[a..z])
+    journal.get(a..a + ENTRY)
 }
 
-// The number YYYYMMDD of a date, 0 where it does not exist.
-fn day(date: &[u8]) -> u32
-    ensures { result ≡ day_in (date_of date.now) }
+// Entry e, from 0. None where it is unused, or there is none.
+pub fn entry_at(journal: &[u8], e: usize) -> Option<Entry>
+    ensures { EntryAt journal.now e result }
 {
-    match dates::read(date) {
-        Date::Day(k) => k,
-        Date::NoDay => 0,
-    }
+    entry_fields(bytes_at(journal, e)?)
 }
 
 // Key, old date and new date of an entry, the dates as eight digits.
@@ -130,9 +116,11 @@ fn put_fields(dst: &mut [u8], x: &[u8])
     requires { (length dst.old ≡ row_size) × (length x.now ≡ entry_size) }
     ensures { dst.new ≡ row_of x.now }
 {
+    let old_date = dates::read(&x[25..31]).unwrap_or(0);
+    let new_date = dates::read(&x[31..37]).unwrap_or(0);
     zones::put(&mut dst[0..25], &x[0..25]);
-    zones::put_number(&mut dst[25..33], day(&x[25..31]) as u64);
-    zones::put_number(&mut dst[33..41], day(&x[31..37]) as u64);
+    zones::put_number(&mut dst[25..33], old_date as u64);
+    zones::put_number(&mut dst[33..41], new_date as u64);
 }
 
 // The row of entry e, from 0. Nothing is written where the row has another length, or the journal no such entry.
@@ -142,25 +130,18 @@ pub fn put_row(dst: &mut [u8], journal: &[u8], e: usize)
     if dst.len() != ROW {
         return;
     }
-    if MOST_ENTRIES <= e {
-        return;
+    if let Some(x) = bytes_at(journal, e) {
+        put_fields(dst, x);
     }
-    let a = ENTRY * e;
-    let z = a + ENTRY;
-    if journal.len() < z {
-        return;
-    }
-    put_fields(dst, &journal[a..z]);
 }
 
 // The body that entry e names, from 0, as a part of the journal. Empty where the entry is unused, or not all its lines are there.
 pub fn body_at(journal: &[u8], e: usize) -> &[u8]
     ensures { BodyAt journal.now e result.now }
 {
-    let x = entry_at(journal, e);
-    if !x.used {
+    let Some(x) = entry_at(journal, e) else {
         return &journal[..0];
-    }
+    };
     let a = CONTENTS + RECORD * x.first;
     let z = a + RECORD * x.records;
     if journal.len() < z {

@@ -3,20 +3,14 @@
 
 ghost use Rattle.std.specs.Prelude.{◌≡◌, length};
 ghost use Rattle.zones.specs.Number.{value_of};
-ghost use Rattle.dates.specs.Days.{date_of};
-ghost use Rattle.amounts.specs.Amounts.{amount_of};
-ghost use Rattle.layouts.specs.Zone.{day_in, value_in};
-ghost use Rattle.fields.specs.Rows.{no_row};
 ghost use Rattle.fields.specs.Answers.{KeyAt, RowAt, ValuedAt};
 
-use amounts::Amount;
-use dates::Date;
 use grammar::Key;
 use records::RECORD;
 
 // A movement: what its 04 says, and the number of its complements.
 #[repr(C)]
-#[derive(Clone, Copy)]
+#[derive(Clone, Copy, Default)]
 pub struct Movement {
     pub internal: [u8; 4],
     pub code: [u8; 2],
@@ -33,57 +27,35 @@ pub struct Movement {
 }
 
 // What a balance in value counts of a movement: its value date and its amount.
-#[derive(Clone, Copy)]
+#[derive(Clone, Copy, Default)]
 pub struct Valued {
     pub value: u32,
     pub amount: i64,
+}
+
+// A zone of a record, by value.
+fn zone<const N: usize>(s: &[u8]) -> [u8; N]
+    requires { length s.now ≡ N }
+    ensures { result ≡ s.now }
+{
+    let mut zone = [0; N];
+    zone.copy_from_slice(s);
+    zone
 }
 
 // The key in a record. A record of another length than 120 has none: zero bytes.
 pub fn key_at(r: &[u8]) -> Key
     ensures { KeyAt r.now result }
 {
-    let mut bank = [0u8; 5];
-    let mut branch = [0u8; 5];
-    let mut currency = [0u8; 3];
-    let mut account = [0u8; 11];
     if r.len() != RECORD {
-        return Key {
-            bank,
-            branch,
-            currency,
-            decimals: 0,
-            account,
-        };
+        return Key::default();
     }
-    zones::put(&mut bank, &r[2..7]);
-    zones::put(&mut branch, &r[11..16]);
-    zones::put(&mut currency, &r[16..19]);
-    zones::put(&mut account, &r[21..32]);
     Key {
-        bank,
-        branch,
-        currency,
+        bank: zone(&r[2..7]),
+        branch: zone(&r[11..16]),
+        currency: zone(&r[16..19]),
         decimals: r[19],
-        account,
-    }
-}
-
-fn day(s: &[u8]) -> u32
-    ensures { result ≡ day_in (date_of s.now) }
-{
-    match dates::read(s) {
-        Date::Day(k) => k,
-        Date::NoDay => 0,
-    }
-}
-
-fn amount(s: &[u8]) -> i64
-    ensures { result ≡ value_in (amount_of s.now) }
-{
-    match amounts::read(s) {
-        Amount::Value(v) => v,
-        Amount::NoAmount => 0,
+        account: zone(&r[21..32]),
     }
 }
 
@@ -94,55 +66,25 @@ fn entry_number(s: &[u8]) -> u32
     zones::number(s) as u32
 }
 
-// What stands where there is no record.
-fn no_row() -> Movement
-    ensures { result ≡ no_row }
-{
-    Movement {
-        internal: [0u8; 4],
-        code: [0u8; 2],
-        booked: 0,
-        reject: [0u8; 2],
-        value: 0,
-        label: [0u8; 31],
-        entry: 0,
-        exempt: 0,
-        unavailable: 0,
-        amount: 0,
-        reference: [0u8; 16],
-        complements: 0,
-    }
-}
-
 // The row of a 04 with so many complements. A record of another length than 120 has none: every number and byte is 0.
 pub fn row_at(r: &[u8], complements: u64) -> Movement
     ensures { RowAt r.now complements result }
 {
-    let mut internal = [0u8; 4];
-    let mut code = [0u8; 2];
-    let mut reject = [0u8; 2];
-    let mut label = [0u8; 31];
-    let mut reference = [0u8; 16];
     if r.len() != RECORD {
-        return no_row();
+        return Movement::default();
     }
-    zones::put(&mut internal, &r[7..11]);
-    zones::put(&mut code, &r[32..34]);
-    zones::put(&mut reject, &r[40..42]);
-    zones::put(&mut label, &r[48..79]);
-    zones::put(&mut reference, &r[104..120]);
     Movement {
-        internal,
-        code,
-        booked: day(&r[34..40]),
-        reject,
-        value: day(&r[42..48]),
-        label,
+        internal: zone(&r[7..11]),
+        code: zone(&r[32..34]),
+        booked: dates::read(&r[34..40]).unwrap_or(0),
+        reject: zone(&r[40..42]),
+        value: dates::read(&r[42..48]).unwrap_or(0),
+        label: zone(&r[48..79]),
         entry: entry_number(&r[81..88]),
         exempt: r[88],
         unavailable: r[89],
-        amount: amount(&r[90..104]),
-        reference,
+        amount: amounts::read(&r[90..104]).unwrap_or(0),
+        reference: zone(&r[104..120]),
         complements,
     }
 }
@@ -152,14 +94,11 @@ pub fn valued_at(r: &[u8]) -> Valued
     ensures { ValuedAt r.now result }
 {
     if r.len() != RECORD {
-        return Valued {
-            value: 0,
-            amount: 0,
-        };
+        return Valued::default();
     }
-    let value = day(&r[42..48]);
+    let value = dates::read(&r[42..48]).unwrap_or(0);
     Valued {
         value,
-        amount: amount(&r[90..104]),
+        amount: amounts::read(&r[90..104]).unwrap_or(0),
     }
 }

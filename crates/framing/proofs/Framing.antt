@@ -12,35 +12,37 @@ use Rattle.zones.specs.Copy.{same_bytes}
 use Rattle.framing.specs.Files.{line_end, end_of, width_of}
 use Rattle.framing.specs.Frames.{frame_of, frame_by}
 use Rattle.framing.specs.declared.Form.{Form}
-use Rattle.framing.specs.declared.Frame.TheVariants.{Records, Refused}
+use Rattle.std.specs.Prelude.{Ok, Err}
+use Rattle.framing.specs.Refusals.{refusal_by}
+use Rattle.framing.specs.declared.refusals.Reason.TheVariants.{UnknownLineEnd, UnevenLength, TooManyRecords}
 
 module _ (f : Form) (size most n : ℕ) where
-  pub unknown : 2 < line_end f → Refused 1 ≡ frame_by f size most n
+  pub unknown : 2 < line_end f → Err (refusal_by UnknownLineEnd 0) ≡ frame_by f size most n
   unfolding frame_by
   unknown h = rw (lt-ltb 2 (line_end f) h)
 
   module _ (k : line_end f ≤ 2) where
-    pub uneven_length : (n % (size + line_end f) ≡ 0 → ⊥) → Refused 2 ≡ frame_by f size most n
+    pub uneven_length : (n % (size + line_end f) ≡ 0 → ⊥) → Err (refusal_by UnevenLength 0) ≡ frame_by f size most n
     unfolding frame_by width_of
     uneven_length h = rw (le-ltb 2 (line_end f) k, ne_eqb (n % (size + line_end f)) 0 h)
 
-    pub too_many : n % (size + line_end f) ≡ 0 → most < n / (size + line_end f) → Refused 3 ≡ frame_by f size most n
+    pub too_many : n % (size + line_end f) ≡ 0 → most < n / (size + line_end f) → Err (refusal_by TooManyRecords 0) ≡ frame_by f size most n
     unfolding frame_by width_of
     too_many e h = rw (le-ltb 2 (line_end f) k, eq-eqb (n % (size + line_end f)) 0 e, lt-ltb most (n / (size + line_end f)) h)
 
     pub records : n % (size + line_end f) ≡ 0 → n / (size + line_end f) ≤ most
-        → Records (size + line_end f) (n / (size + line_end f)) ≡ frame_by f size most n
+        → Ok (record { width = size + line_end f; count = n / (size + line_end f) }) ≡ frame_by f size most n
     unfolding frame_by width_of
     records e h = rw (le-ltb 2 (line_end f) k, eq-eqb (n % (size + line_end f)) 0 e, le-ltb most (n / (size + line_end f)) h)
 
     -- records of no bytes
-    pub empty : size + line_end f ≡ 0 → n ≡ 0 → Records 0 0 ≡ frame_by f size most n
+    pub empty : size + line_end f ≡ 0 → n ≡ 0 → Ok (record { width = 0; count = 0 }) ≡ frame_by f size most n
     empty w l =
         let q : n / (size + line_end f) ≡ 0 = rw w (div-zero n) in
-        let z : Records (size + line_end f) (n / (size + line_end f)) ≡ Records 0 0 = rw (q, w) in
+        let z : Ok (record { width = size + line_end f; count = n / (size + line_end f) }) ≡ Ok (record { width = 0; count = 0 }) = rw (q, w) in
         sym z ∙ records (rw w (mod-zero n ∙ l)) (rw q (zero-le))
 
-    pub unequal : size + line_end f ≡ 0 → (n ≡ 0 → ⊥) → Refused 2 ≡ frame_by f size most n
+    pub unequal : size + line_end f ≡ 0 → (n ≡ 0 → ⊥) → Err (refusal_by UnevenLength 0) ≡ frame_by f size most n
     unequal w l = uneven_length (λ e. l (sym (mod-zero n) ∙ (ap (λ (m : ℕ). n % m) (sym w) ∙ e)))
 
 -- a file's frame is that of its length

@@ -1,3 +1,4 @@
+pub mod Refusals
 pub mod Files
 pub mod Frames
 pub mod Answers

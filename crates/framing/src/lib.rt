@@ -3,7 +3,11 @@
 
 ghost use Rattle.framing.specs.Answers.{Cut, CutLength, WrongEnd};
 
-// The form of a file: what stands after each record, 0 nothing, 1 LF, 2 CR LF.
+mod refusals;
+
+pub use refusals::{Reason, Refusal};
+
+// The form of a file: what stands after each record, 0 nothing, 1 LF, 2 CR LF. Callers in C pass any number: hence no enum.
 #[repr(C)]
 #[derive(Clone, Copy)]
 pub struct Form {
@@ -13,38 +17,38 @@ pub struct Form {
 // A file without line ends.
 pub const PLAIN: Form = Form { line_end: 0 };
 
-// The width of a record with its line end, and the number of records; or the number of a refusal.
+// The width of a record with its line end, and the number of records.
 #[derive(Clone, Copy)]
-pub enum Frame {
-    Records { width: usize, count: usize },
-    Refused(u64),
+pub struct Frame {
+    pub width: usize,
+    pub count: usize,
 }
 
 // How a file of some length is cut: its bytes have no say in it.
-pub fn cut_length(form: Form, size: u16, most: u32, length: usize) -> Frame
+pub fn cut_length(form: Form, size: u16, most: u32, length: usize) -> Result<Frame, Refusal>
     ensures { CutLength form size most length result }
 {
     if 2 < form.line_end {
-        return Frame::Refused(1);
+        return Err(Reason::UnknownLineEnd.at(0));
     }
     let width = size as usize + form.line_end as usize;
     if width == 0 {
         if length == 0 {
-            return Frame::Records { width: 0, count: 0 };
+            return Ok(Frame { width: 0, count: 0 });
         }
-        return Frame::Refused(2);
+        return Err(Reason::UnevenLength.at(0));
     }
     if length % width != 0 {
-        return Frame::Refused(2);
+        return Err(Reason::UnevenLength.at(0));
     }
     let count = length / width;
     if (most as usize) < count {
-        return Frame::Refused(3);
+        return Err(Reason::TooManyRecords.at(0));
     }
-    Frame::Records { width, count }
+    Ok(Frame { width, count })
 }
 
-pub fn cut(form: Form, size: u16, most: u32, file: &[u8]) -> Frame
+pub fn cut(form: Form, size: u16, most: u32, file: &[u8]) -> Result<Frame, Refusal>
     ensures { Cut form size most file.now result }
 {
     cut_length(form, size, most, file.len())

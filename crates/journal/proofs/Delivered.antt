@@ -20,7 +20,7 @@ use Rattle.entries.specs.Entries.{table_size}
 use Rattle.journal_layout.specs.Layout.{most_lines, is_length, lines_of, entries_of, bodies_of, journal_of, Journal, opened_of}
 use Rattle.journal_layout.proofs.Testing.{is_long}
 use Rattle.journal_layout.proofs.Exact.{journal_length, journal_sound, journal_list}
-use Rattle.journal.specs.declared.Refusal.{Refusal}
+use Rattle.journal.specs.declared.Rejection.{Rejection}
 use Rattle.journal.specs.Delivery.{Outcome, delivered, refused, run, lines_in, outcome_by, outcome_of, content_by, content_of}
 use Rattle.journal.specs.Arrivals.{arrivals}
 use Rattle.journal.proofs.Runs.{Kept, kept, ran, kept_journal, kept_length}
@@ -43,7 +43,7 @@ unfolding content_of
 content_canonical j f b = ap (content_by j) (outcome_canonical j f b)
 
 -- a refused delivery leaves the journal as it was, sound or not
-pub unchanged : (j : List ℕ) (f : Form) (b : List ℕ) {r : Refusal} → outcome_of j f b ≡ refused r → content_of j f b ≡ j
+pub unchanged : (j : List ℕ) (f : Form) (b : List ℕ) {r : Rejection} → outcome_of j f b ≡ refused r → content_of j f b ≡ j
 unfolding content_of
 unchanged j f b e = ap (content_by j) e
 

@@ -7,7 +7,11 @@ use native.Mathlib.Omega.{arith}
 use lib.Dec.{eqb}
 use lib.ListN.{length, get_or}
 use borrow.Author.Tests.{eq-eqb, ne_eqb}
+use Rattle.std.specs.Prelude.{Result, Ok, Err}
 use Rattle.framing.specs.Files.{plain}
+use Rattle.framing.specs.Refusals.{refusal_by}
+use Rattle.framing.specs.declared.refusals.Reason.TheVariants.{UnsoundJournal}
+use Rattle.framing.specs.declared.refusals.Refusal.{Refusal}
 use Rattle.zones.specs.Choice.{pick}
 use Rattle.grammar.specs.Record.{same_key}
 use Rattle.grammar.specs.Statements.{Statement}
@@ -18,34 +22,35 @@ use Rattle.contents.specs.Heads.{record_at_of}
 use Rattle.bodies.specs.Bodies.{body_of}
 use Rattle.bodies.proofs.Single.{body_reads}
 use Rattle.entries.specs.Entries.{table_size, body_at, entry_in}
-use Rattle.journal_layout.specs.declared.Usage.TheVariants as U
+use Rattle.journal_layout.specs.declared.Usage.{Usage}
 use Rattle.journal_layout.specs.Layout.{lines_of, Journal}
 use Rattle.journal_layout.specs.Test.{sound_in, held_of, usage_of}
 use Rattle.journal_layout.proofs.Holding.{there_alone, there_body}
 use Rattle.journal_layout.proofs.Exact.{journal_held, sound_journal}
 use Rattle.journal_layout.proofs.Places.{used_held}
 use Rattle.journal.specs.Newest.{key_size, key_from, is_account}
-use Rattle.journal.specs.declared.Holding.TheVariants.{Statements, Refused}
 use Rattle.journal.specs.Holdings.{holding_of, body_in, of_account_in}
 use Rattle.journal.proofs.Latest.{account_value}
 
 -- how many are held, from how much is used
 module _ (j : List ℕ) where
-  pub counted : {n u l : ℕ} → U.Counted n u l ≡ usage_of j → Statements n ≡ holding_of j
+  pub counted : {u : Usage} → Ok u ≡ usage_of j → Ok u.entries ≡ holding_of j
   unfolding usage_of holding_of
-  counted {n} {u} {l} e = by (sound_in j) (lines_of (held_of j)) ((length j - table_size) / record_size) e
+  counted {u} e = by (sound_in j) (lines_of (held_of j)) ((length j - table_size) / record_size) e
     where
-      by : (t : Bool) (v w : ℕ) → U.Counted n u l ≡ pick t (U.Counted (length (held_of j)) v w) (U.Refused 21 0) → Statements n ≡ pick t (Statements (length (held_of j))) (Refused 21 0)
-      by true v w q = let z : n ≡ length (held_of j) = cc in rw z
+      by : (t : Bool) (v w : ℕ) → Ok u ≡ pick t (Ok (record { entries = length (held_of j); used = v; lines = w })) (Err (refusal_by UnsoundJournal 0))
+          → Ok u.entries ≡ pick t (Ok (length (held_of j))) (Err (refusal_by UnsoundJournal 0))
+      by true v w q = let z : u.entries ≡ length (held_of j) = cc in rw z
       by false v w q = absurd (let z : ◌≡◌ {A = ℕ} 0 1 = cc in omega arith)
 
-  pub not_counted : {n r : ℕ} → U.Refused n r ≡ usage_of j → Refused n r ≡ holding_of j
+  pub not_counted : {e : Refusal} → Err e ≡ usage_of j → Err e ≡ holding_of j
   unfolding usage_of holding_of
-  not_counted {n} {r} e = by (sound_in j) (lines_of (held_of j)) ((length j - table_size) / record_size) e
+  not_counted {e} p = by (sound_in j) (lines_of (held_of j)) ((length j - table_size) / record_size) p
     where
-      by : (t : Bool) (v w : ℕ) → U.Refused n r ≡ pick t (U.Counted (length (held_of j)) v w) (U.Refused 21 0) → Refused n r ≡ pick t (Statements (length (held_of j))) (Refused 21 0)
+      by : (t : Bool) (v w : ℕ) → ◌≡◌ {A = Result Usage Refusal} (Err e) (pick t (Ok (record { entries = length (held_of j); used = v; lines = w })) (Err (refusal_by UnsoundJournal 0)))
+          → Err e ≡ pick t (Ok (length (held_of j))) (Err (refusal_by UnsoundJournal 0))
       by true v w q = absurd (let z : ◌≡◌ {A = ℕ} 0 1 = cc in omega arith)
-      by false v w q = let z : n ≡ 21 = cc in let y : r ≡ 0 = cc in rw (z, y)
+      by false v w q = let z : ◌≡◌ {A = Refusal} e (refusal_by UnsoundJournal 0) = cc in rw z
 
   -- a body
   pub no_entry_lem : (e : ℕ) → e ≡ 0 → [] ≡ body_in j e
@@ -74,7 +79,7 @@ module _ (j : List ℕ) (h : sound_in j ≡ true) where
   abbrev journal : Journal j ss
   journal = sound_journal j h
 
-  pub sound_held : holding_of j ≡ Statements (length ss)
+  pub sound_held : holding_of j ≡ Ok (length ss)
   unfolding holding_of
   sound_held = rw h
 

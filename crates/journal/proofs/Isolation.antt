@@ -7,9 +7,12 @@ use native.Mathlib.Omega.{arith}
 use borrow.Author.Tests.{lt-ltb, le-leb, ltb-true, leb-true}
 use lib.Dec.{leb, ltb}
 use lib.ListN.{length, length-append}
+use Rattle.std.specs.Prelude.{Result, Ok, Err}
 use Rattle.zones.specs.Choice.{pick}
 use Rattle.framing.specs.declared.Form.{Form}
 use Rattle.framing.specs.Files.{All}
+use Rattle.framing.specs.Refusals.{refusal_of, refusal_by}
+use Rattle.framing.specs.declared.refusals.Reason.TheVariants.{UnsoundJournal, FullContents, FullJournal}
 use Rattle.grammar.specs.declared.Key.{Key}
 use Rattle.grammar.specs.Record.{same_key}
 use Rattle.grammar.specs.Answer as Checks
@@ -28,11 +31,10 @@ use Rattle.journal_layout.proofs.Adding.{lines_append, all_append}
 use Rattle.journal_layout.proofs.Chain.{account_append}
 use Rattle.journal_layout.proofs.Accounts.{few_account, lines_account, account_again, account_kept}
 use Rattle.journal_layout.proofs.Exact.{sound_unique, journal_long}
-use Rattle.journal.specs.declared.Refusal.{Refusal}
+use Rattle.journal.specs.declared.Rejection.{Rejection}
 use Rattle.journal.specs.declared.Delivery.{Delivery}
-use Rattle.journal.specs.declared.Delivery.TheVariants.{Refused}
-use Rattle.journal.specs.declared.Verdict.TheVariants.{Hold, Store, Refuse}
-use Rattle.journal.specs.Delivery.{refusal, not_next, is_held, verdict_by, verdict_of, Outcome, delivered, refused, proceed, run, lines_in, outcome_by, outcome_of, content_of}
+use Rattle.journal.specs.declared.Verdict.TheVariants.{Hold, Store}
+use Rattle.journal.specs.Delivery.{rejection, not_next, is_held, verdict_by, verdict_of, Outcome, delivered, refused, proceed, run, lines_in, outcome_by, outcome_of, content_of}
 use Rattle.journal.specs.Answers.{answer_of, Delivers}
 use Rattle.journal.specs.Arrivals.{arrivals}
 use Rattle.journal.specs.Series.{Deliver, after, WhollyHeld}
@@ -77,11 +79,11 @@ module _ (k : Key) (n : ℕ) (H : List Statement) (m : ℕ) (G : List Statement)
     then : Beside k n (held_then H o) m (held_then G p)
 
   -- A step. Of the four tests of a verdict the first two are the same; where there is an entry and lines in the first journal, there are in the second.
-  step : (held follows entry lines entry' lines' : Bool) (r : Refusal) (at : ℕ) (X Y X' Y' : Outcome) → (entry ≡ true → entry' ≡ true) → (lines ≡ true → lines' ≡ true)
-      → HadRoom (answer_of (proceed (pick held Hold (pick follows (pick entry (pick lines Store (Refuse (refusal 24 at))) (Refuse (refusal 23 at))) (Refuse r))) X Y refused))
+  step : (held follows entry lines entry' lines' : Bool) (r : Rejection) (at : ℕ) (X Y X' Y' : Outcome) → (entry ≡ true → entry' ≡ true) → (lines ≡ true → lines' ≡ true)
+      → HadRoom (answer_of (proceed (pick held (Ok Hold) (pick follows (pick entry (pick lines (Ok Store) (Err (rejection (refusal_by FullJournal at)))) (Err (rejection (refusal_by FullContents at)))) (Err r))) X Y refused))
       → (HadRoom (answer_of X) → Alike X X') → (HadRoom (answer_of Y) → Alike Y Y')
-      → Alike (proceed (pick held Hold (pick follows (pick entry (pick lines Store (Refuse (refusal 24 at))) (Refuse (refusal 23 at))) (Refuse r))) X Y refused)
-      (proceed (pick held Hold (pick follows (pick entry' (pick lines' Store (Refuse (refusal 24 at))) (Refuse (refusal 23 at))) (Refuse r))) X' Y' refused)
+      → Alike (proceed (pick held (Ok Hold) (pick follows (pick entry (pick lines (Ok Store) (Err (rejection (refusal_by FullJournal at)))) (Err (rejection (refusal_by FullContents at)))) (Err r))) X Y refused)
+      (proceed (pick held (Ok Hold) (pick follows (pick entry' (pick lines' (Ok Store) (Err (rejection (refusal_by FullJournal at)))) (Err (rejection (refusal_by FullContents at)))) (Err r))) X' Y' refused)
   step true f e l e' l' r at X Y X' Y' p q h i j = i h
   step false false e l e' l' r at X Y X' Y' p q h i j = record { answer = refl; then = b }
   step false true false l e' l' r at X Y X' Y' p q h i j = absurd (h.not_23 refl)
@@ -265,7 +267,7 @@ named_apart k R n =
     all_so _ _ (λ s o ss r. all_so (λ t. t.key ≡ s.name) (λ t. same_key t.key k ≡ same_key s.name k) (λ t e. ap (λ x. same_key x k) e) ss (o ss r)) R n
 
 -- what holds of every answer holds of the account's
-for_all : (P : Delivery → Type 0) (D : Deliver) (k : Key) (j : List ℕ) (R : List Sent) → All P (answers_of D j R) → All P (answers_for D k j R)
+for_all : (P : Result Delivery Rejection → Type 0) (D : Deliver) (k : Key) (j : List ℕ) (R : List Sent) → All P (answers_of D j R) → All P (answers_for D k j R)
 unfolding answers_of answers_for
 for_all P D k j [] r = tt
 for_all P D k j (s ∷ R) r = by (same_key s.name k) (for_all P D k (D j s.form s.file).journal R r.1)
@@ -278,12 +280,12 @@ for_all P D k j (s ∷ R) r = by (same_key s.name k) (for_all P D k (D j s.form 
     by false i = i
 
 -- AT A LENGTH THAT NO JOURNAL HAS nothing is opened: each delivery is 21, and changes nothing
-all_21 : List Sent → List Delivery
+all_21 : List Sent → List (Result Delivery Rejection)
 all_21 [] = []
-all_21 (s ∷ R) = Refused (refusal 21 0) ∷ all_21 R
+all_21 (s ∷ R) = Err (rejection (refusal_by UnsoundJournal 0)) ∷ all_21 R
 
 module _ (k : Key) (j : List ℕ) (wrong : is_length (length j) ≡ false) where
-  turned_away : (f : Form) (b : List ℕ) → outcome_of j f b ≡ refused (refusal 21 0)
+  turned_away : (f : Form) (b : List ℕ) → outcome_of j f b ≡ refused (rejection (refusal_by UnsoundJournal 0))
   unfolding outcome_of sound_in
   turned_away f b = rw wrong
 
@@ -296,8 +298,8 @@ module _ (k : Key) (j : List ℕ) (wrong : is_length (length j) ≡ false) where
   no_journal (s ∷ R) = rw (turned_away s.form s.file, untouched s.form s.file) (by (same_key s.name k) (no_journal R))
     where
       by : (t : Bool) → answers_for ours k j R ≡ all_21 (for_account k R)
-          → pick t (Refused (refusal 21 0) ∷ answers_for ours k j R) (answers_for ours k j R) ≡ all_21 (pick t (s ∷ for_account k R) (for_account k R))
-      by true i = ap (λ l. Refused (refusal 21 0) ∷ l) i
+          → pick t (Err (rejection (refusal_by UnsoundJournal 0)) ∷ answers_for ours k j R) (answers_for ours k j R) ≡ all_21 (pick t (s ∷ for_account k R) (for_account k R))
+      by true i = ap (λ l. Err (rejection (refusal_by UnsoundJournal 0)) ∷ l) i
       by false i = i
 
   stays : (R : List Sent) → after ours j (events_of R) ≡ j
@@ -333,7 +335,7 @@ module _ (f : Form) (b : List ℕ) where
   pub refused_anybodys : {n at : ℕ} → check_of (coding_of f) f b ≡ Checks.refused n at → (P : Statement → Type 0) → EachStatement P f b
   refused_anybodys e P ss r = absurd (let c = counts r in let z : ◌≡◌ {A = ℕ} 0 1 = cc in omega arith)
 
-  pub refused_alike : {n at : ℕ} → check_of (coding_of f) f b ≡ Checks.refused n at → {j : List ℕ} {H : List Statement} → Journal j H → outcome_of j f b ≡ refused (refusal n at)
+  pub refused_alike : {n at : ℕ} → check_of (coding_of f) f b ≡ Checks.refused n at → {j : List ℕ} {H : List Statement} → Journal j H → outcome_of j f b ≡ refused (rejection (refusal_of n at))
   refused_alike e g = outcome_by_lem g f b ∙ rw e
 
   -- and so may one without statements: it is answered with none stored and none held, and changes nothing

@@ -4,10 +4,12 @@ use mathlib.Core.Bool.{Bool, true, false, ◌&&◌}
 use mathlib.Core.List.{List, [], ◌∷◌}
 use Prim.Native.Nat.{ℕ, zero, suc, ◌+◌, ◌-◌, ◌*◌, ◌<◌, ◌≤◌}
 use native.Mathlib.Nat.{add-zero, zero-add}
+use native.Mathlib.Numerals.{add-one}
 use native.Mathlib.Omega.{arith}
 use lib.Dec.{eqb}
-use lib.ListN.{length, take, drop, get_or}
-use borrow.Author.Tests.{eq-eqb, ne_eqb, lt-ltb, le-ltb}
+use lib.ListN.{length, take, drop, get_or, drop_of_length-le}
+use lib.Seq.{drop-cons}
+use borrow.Author.Tests.{eq-eqb, ne_eqb, lt-ltb}
 use Rattle.zones.specs.Choice.{pick}
 use Rattle.zones.specs.Copy.{same_bytes}
 use Rattle.layouts.specs.Zone.{part}
@@ -16,30 +18,33 @@ use Rattle.framing.specs.Files.{All, line_end, width_of}
 use Rattle.grammar.specs.declared.Key.{Key}
 use Rattle.grammar.specs.Record.{same_key}
 use Rattle.grammar.specs.Statements.{Statement}
-use Rattle.grammar.specs.Files.{Reads, Writable, statements_of, check_of}
+use Rattle.grammar.specs.Files.{Reads, Writable, statements_of}
 use Rattle.grammar.specs.Parts.{no_statement}
 use Rattle.records.specs.July.{record_size, july, coding_of}
 use Rattle.contents.specs.Heads.{record_at_of}
 use Rattle.bodies.specs.Bodies.{body_of}
 use Rattle.bodies.proofs.Single.{body_reads}
 use Rattle.bodies.proofs.Ends.{opening_there, opening_whole}
-use Rattle.entries.specs.declared.Entry.{Entry}
-use Rattle.entries.specs.Entries.{table_size, entry_in, body_at}
+use Rattle.std.specs.Prelude.{None, Result, Ok, Err}
+use Rattle.framing.specs.Refusals.{refusal_by}
+use Rattle.framing.specs.declared.refusals.Refusal.{Refusal}
+use Rattle.framing.specs.declared.refusals.Reason.TheVariants.{NoSuchEntry}
+use Rattle.grammar.proofs.Tests.{clash}
+use Rattle.entries.proofs.Found.{none_found}
+use Rattle.entries.specs.Entries.{Fields, used_entry, table_size, entry_in, body_at}
 use Rattle.journal_layout.proofs.Holding.{Holding, there_fields, there_body, there_inside}
 use Rattle.journal_layout.proofs.Testing.{cut}
 use Rattle.journal_layout.proofs.Exact.{journal_held, sound_journal}
-use Rattle.journal_layout.specs.Test.{sound_in, held_of}
+use Rattle.journal_layout.specs.Test.{held_of}
 use Rattle.journal.specs.Arrivals.{span, arrivals, spans_of, last_index}
-use Rattle.journal.specs.Newest.{key_size, key_from, newest_among, newest_by, newest_of, newest_part, Lies, is_account, last_held_from, last_part}
+use Rattle.journal.specs.Newest.{key_size, key_from, newest_among, newest_of, newest_part, is_account, last_held_from, last_part}
 use Rattle.journal.specs.declared.Found.{Found}
-use Rattle.journal.specs.declared.Found.TheVariants.{InJournal, InFile, Refused}
-use Rattle.journal.specs.Plans.{parts_from, spans_from, Reading, Searchable, Finds, Planned}
+use Rattle.journal.specs.declared.Found.TheVariants.{InJournal, InFile}
+use Rattle.journal.specs.Plans.{part_of, parts_of, Within, Inside, nowhere, spans_at, Reading, Plans, Searchable, Finds}
+use Rattle.journal.specs.declared.Bounds.{Bounds}
 use Rattle.journal.specs.declared.Plan.{Plan}
-use Rattle.journal.specs.declared.Delivery.TheVariants as D
-use Rattle.journal.specs.declared.Delivery.TheVariants.{Done}
-use Rattle.journal.specs.Delivery.{refusal, Outcome, delivered, refused, run, lines_in, outcome_by, outcome_of}
-use Rattle.journal.specs.Answers.{answer_of}
-use Rattle.journal.specs.declared.Refusal.{Refusal}
+use Rattle.journal.specs.Delivery.{refused, outcome_of}
+use Rattle.journal.specs.declared.Rejection.{Rejection}
 use Rattle.journal.proofs.Values.{reading_length, length_parts}
 
 -- ---- one record's account
@@ -68,29 +73,19 @@ account_value x {f} {h} r = rw (eq-eqb (length (record_at_of h 0)) record_size (
 
 -- ---- among the held
 
-module _ (j : List ℕ) (count : ℕ) (x : List ℕ) where
-  pub record Looking (last e : ℕ) : Type 0 where
-    pub inside : e ≤ count
-    pub rest : last_held_from (count - e) e last j x ≡ last_held_from count 0 0 j x
+-- the loop: what is found from entry e on is the whole answer
+module _ (j : List ℕ) (count : ℕ) (x : List ℕ) (last e : ℕ) {whole : ℕ} (g : last_held_from (count - e) e last j x ≡ whole) where
+  pub goes_on : {h o : List ℕ} {t : Bool} {r : ℕ} → e < count → h ≡ body_at j e → o ≡ record_at_of h 0 → t ≡ is_account x o → r ≡ pick t (e + 1) last
+      → last_held_from (count - (e + 1)) (e + 1) r j x ≡ whole
+  unfolding last_held_from
+  goes_on {h} {o} {t} {r} m p q u v =
+      let z : count - e ≡ suc (count - (e + 1)) = omega arith in
+      let y : last_held_from (count - (e + 1)) (e + 1) (pick (is_account x (record_at_of (body_at j e) 0)) (e + 1) last) j x ≡ whole = rw z at g in
+      rw (v, u, q, p) y
 
-  pub begins : Looking 0 0
-  begins = let z : count - 0 ≡ count = omega arith in record { inside = omega arith; rest = rw z }
-
-  module _ {last e : ℕ} (g : Looking last e) where
-    pub goes_on : {h o : List ℕ} {t : Bool} {r : ℕ} → e < count → h ≡ body_at j e → o ≡ record_at_of h 0 → t ≡ is_account x o → r ≡ pick t (e + 1) last → Looking r (e + 1)
-    unfolding last_held_from
-    goes_on {h} {o} {t} {r} m p q u v =
-        let z : count - e ≡ suc (count - (e + 1)) = omega arith in
-        let y : last_held_from (count - (e + 1)) (e + 1) (pick (is_account x (record_at_of (body_at j e) 0)) (e + 1) last) j x ≡ last_held_from count 0 0 j x
-        = rw z at g.rest in
-        record { inside = omega arith; rest = rw (v, u, q, p) y }
-
-    pub ends : count ≤ e → last ≡ last_held_from count 0 0 j x
-    unfolding last_held_from
-    ends h =
-        let i = g.inside in
-        let z : count - e ≡ 0 = omega arith in
-        rw z at g.rest
+  pub ends : count ≤ e → last ≡ whole
+  unfolding last_held_from
+  ends h = let z : count - e ≡ 0 = omega arith in rw z at g
 
 -- the index of the account's last held statement
 held_index : (j x : List ℕ) (e last : ℕ) (B : List Statement) → All (Writable july) B → ((i : ℕ) → i < length B → body_at j (e + i) ≡ body_of (get_or B i no_statement))
@@ -108,33 +103,18 @@ last_held_is {j} {H} x g = held_index j x 0 0 H g.alone (λ i h. rw (zero-add i)
 
 -- ---- among the planned
 
-module _ (b places ends : List ℕ) (count : ℕ) (x : List ℕ) where
-  abbrev whole : ℕ
-  whole = last_part 0 0 (parts_from count 0 places ends b) x
+-- the loop: what is found from part p on is the whole answer
+module _ (b : List ℕ) (xs : List Bounds) (x : List ℕ) (last p : ℕ) {whole : ℕ} (g : last_part p last (parts_of (drop p xs) b) x ≡ whole) where
+  pub searches_on : {h o : List ℕ} {t : Bool} {r : ℕ} → p < length xs → h ≡ part_of (get_or xs p nowhere) b → o ≡ record_at_of h 0
+      → t ≡ is_account x o → r ≡ pick t (p + 1) last → last_part (p + 1) r (parts_of (drop (p + 1) xs) b) x ≡ whole
+  unfolding last_part
+  searches_on m e q u v =
+      let d : drop p xs ≡ get_or xs p nowhere ∷ drop (p + 1) xs = rw (add-one p) (drop-cons xs p nowhere m) in
+      rw (v, u, q, e) (rw d at g)
 
-  pub record Searching (last p : ℕ) : Type 0 where
-    pub inside : p ≤ count
-    pub rest : last_part p last (parts_from (count - p) p places ends b) x ≡ whole
-
-  pub starts : Searching 0 0
-  starts = let z : count - 0 ≡ count = omega arith in record { inside = omega arith; rest = rw z }
-
-  module _ {last p : ℕ} (g : Searching last p) where
-    pub searches_on : {o : List ℕ} {t : Bool} {r : ℕ} → p < count → o ≡ record_at_of (take (get_or ends p 0 - get_or places p 0) (drop (get_or places p 0) b)) 0
-        → t ≡ is_account x o → r ≡ pick t (p + 1) last → Searching r (p + 1)
-    unfolding last_part parts_from
-    searches_on {o} {t} {r} m q u v =
-        let z : count - p ≡ suc (count - (p + 1)) = omega arith in
-        let y : last_part (p + 1) (pick (is_account x (record_at_of (take (get_or ends p 0 - get_or places p 0) (drop (get_or places p 0) b)) 0)) (p + 1) last) (parts_from (count - (p + 1)) (p + 1) places ends b) x ≡ whole
-        = rw z at g.rest in
-        record { inside = omega arith; rest = rw (v, u, q) y }
-
-    pub stops : count ≤ p → last ≡ whole
-    unfolding last_part parts_from
-    stops h =
-        let i = g.inside in
-        let z : count - p ≡ 0 = omega arith in
-        rw z at g.rest
+  pub stops : length xs ≤ p → last ≡ whole
+  unfolding last_part
+  stops h = rw (drop_of_length-le xs {i = p} h) at g
 
 pub last_part_is : (f : Form) (x : List ℕ) (p last : ℕ) (hs : List (List ℕ)) (P : List Statement) → Reading f hs P → last_part p last hs x ≡ last_index (key_from x) p last P
 unfolding last_part last_index
@@ -156,137 +136,122 @@ index_most k i last (s ∷ ss) h = let p = index_most k (i + 1) (pick (same_key 
 
 -- ---- at the returns
 
-span_at : (n p i : ℕ) (places ends : List ℕ) → i < n → get_or (spans_from n p places ends) i (span 0 0) ≡ span (get_or places (p + i) 0) (get_or ends (p + i) 0 - get_or places (p + i) 0)
-unfolding spans_from
-span_at zero p i places ends h = absurd (omega arith)
-span_at (suc n) p zero places ends h = rw (add-zero p)
-span_at (suc n) p (suc i) places ends h = let z : p + 1 + i ≡ p + suc i = omega arith in rw z at (span_at n (p + 1) i places ends (omega arith))
+span_at : (xs : List Bounds) (i : ℕ) → i < length xs → get_or (spans_at xs) i (span 0 0) ≡ span (get_or xs i nowhere).first ((get_or xs i nowhere).end - (get_or xs i nowhere).first)
+span_at [] i h = absurd (omega arith)
+span_at (x ∷ xs) zero h = refl
+span_at (x ∷ xs) (suc i) h = span_at xs i (omega arith)
 
-module _ {j : List ℕ} {f : Form} {b places ends : List ℕ} {count held : ℕ} (g : Searchable j f b places ends count held) (x : List ℕ) where
+-- each of the parts lies in the file
+pub inside_at : (b : List ℕ) (xs : List Bounds) (i : ℕ) → Inside xs b → i < length xs → Within (get_or xs i nowhere) b
+inside_at b [] i a h = absurd (omega arith)
+inside_at b (x ∷ xs) zero a h = a.0
+inside_at b (x ∷ xs) (suc i) a h = inside_at b xs i a.1 (omega arith)
+
+module _ {j : List ℕ} {f : Form} {b : List ℕ} {xs : List Bounds} {held : ℕ} (g : Searchable j f b xs held) (x : List ℕ) where
   abbrev H : List Statement
   H = held_of j
 
   abbrev S : List Statement
   S = statements_of (coding_of f) f b
 
-  abbrev found : Found
-  found = pick (eqb (length x) key_size) (newest_among f (key_from x) H S) (Refused 25 0)
-
-  other_size : (length x ≡ key_size → ⊥) → Refused 25 0 ≡ found
-  other_size h = sym (rw (ne_eqb (length x) key_size h))
-
-  module _ (size : length x ≡ key_size) {p : ℕ} (q : p ≡ last_part 0 0 (parts_from count 0 places ends b) x) where
-    index : p ≡ last_index (key_from x) 0 0 (arrivals H S)
-    index = q ∙ last_part_is f x 0 0 (parts_from count 0 places ends b) g.list g.reads ∙ ap (last_index (key_from x) 0 0) g.new
-
-    -- it is one of the parts
-    pub part_there : p ≤ count
-    part_there =
-        let m = index_most (key_from x) 0 0 g.list (omega arith) in
-        let e : p ≡ last_index (key_from x) 0 0 g.list = q ∙ last_part_is f x 0 0 (parts_from count 0 places ends b) g.list g.reads in
-        omega (arith, m, e, reading_length f (parts_from count 0 places ends b) g.list g.reads, length_parts count 0 places ends b)
-
-    in_file : 0 < p → InFile (get_or places (p - 1) 0) (get_or ends (p - 1) 0 - get_or places (p - 1) 0) (line_end f) ≡ found
-    unfolding newest_among
-    in_file h =
-        let l = part_there in
-        let s : get_or (spans_of (width_of record_size f) H 0 S) (p - 1) (span 0 0) ≡ span (get_or places (p - 1) 0) (get_or ends (p - 1) 0 - get_or places (p - 1) 0) =
-        rw (← g.spans) (rw (zero-add (p - 1)) at (span_at count 0 (p - 1) places ends (omega arith))) in
-        sym (rw (eq-eqb (length x) key_size size, ← index, lt-ltb 0 p h, s))
-
-    module _ (none : p ≤ 0) {e : ℕ} (r : e ≡ last_held_from held 0 0 j x) where
-      held_at : e ≡ last_index (key_from x) 0 0 H
-      held_at = r ∙ rw g.entry (last_held_is x (journal_held (sound_journal j g.sound)).holding)
-
-      nowhere : e ≡ 0 → Refused 25 0 ≡ found
-      unfolding newest_among
-      nowhere h = sym (rw (eq-eqb (length x) key_size size, ← index, le-ltb 0 p none, ← held_at, h))
-
-      in_journal : {y : Entry} → (e ≡ 0 → ⊥) → y ≡ entry_in j (e - 1) → InJournal (table_size + record_size * y.first) (record_size * y.records) ≡ found
-      unfolding newest_among
-      in_journal h w =
-          let m = index_most (key_from x) 0 0 H (omega arith) in
-          let l : e - 1 < length H = omega (arith, m, held_at) in
-          let t = w ∙ there_fields (journal_held (sound_journal j g.sound)).holding (e - 1) l in
-          sym (rw (eq-eqb (length x) key_size size, ← index, le-ltb 0 p none, ← held_at, lt-ltb 0 e (omega arith), t))
+  abbrev found : Result Found Refusal
+  found = pick (eqb (length x) key_size) (newest_among f (key_from x) H S) (Err (refusal_by NoSuchEntry 0))
 
   -- and each lies where it says
-  pub sizeless : (length x ≡ key_size → ⊥) → Finds found j b (Refused 25 0)
-  sizeless h = record { same = other_size h; lies = tt }
+  module _ (size : length x ≡ key_size) where
+    module _ {n : ℕ} (q : n ≡ last_part 0 0 (parts_of xs b) x) where
+      index : last_index (key_from x) 0 0 (arrivals H S) ≡ n
+      index = sym (q ∙ last_part_is f x 0 0 (parts_of xs b) g.list g.reads ∙ ap (last_index (key_from x) 0 0) g.new)
 
-  module _ (size : length x ≡ key_size) {p : ℕ} (q : p ≡ last_part 0 0 (parts_from count 0 places ends b) x) where
-    pub found_file : 0 < p → Finds found j b (InFile (get_or places (p - 1) 0) (get_or ends (p - 1) 0 - get_or places (p - 1) 0) (line_end f))
-    found_file h =
-        let l = part_there size q in
-        record { same = in_file size q h; lies = omega (arith, g.inside.rises (p - 1) (omega arith), g.inside.within (p - 1) (omega arith)) }
+      -- it is one of the parts
+      part_there : n ≤ length xs
+      part_there =
+          let m = index_most (key_from x) 0 0 g.list (omega arith) in
+          let e : n ≡ last_index (key_from x) 0 0 g.list = q ∙ last_part_is f x 0 0 (parts_of xs b) g.list g.reads in
+          omega (arith, m, e, reading_length f (parts_of xs b) g.list g.reads, length_parts xs b)
 
-    module _ (none : p ≤ 0) {e : ℕ} (r : e ≡ last_held_from held 0 0 j x) where
-      pub found_nowhere : e ≡ 0 → Finds found j b (Refused 25 0)
-      found_nowhere h = record { same = nowhere size q none r h; lies = tt }
+    module _ (i : ℕ) (q : i + 1 ≡ last_part 0 0 (parts_of xs b) x) where
+      pub part_inside : (i < length xs) × Within (get_or xs i nowhere) b
+      part_inside = let l : i < length xs = let m = part_there q in omega arith in (l, inside_at b xs i g.inside l)
 
-      pub found_journal : {y : Entry} → (e ≡ 0 → ⊥) → y ≡ entry_in j (e - 1) → Finds found j b (InJournal (table_size + record_size * y.first) (record_size * y.records))
-      found_journal {y} h w =
+      pub found_file : Finds found j b (Ok (InFile (get_or xs i nowhere).first ((get_or xs i nowhere).end - (get_or xs i nowhere).first) (line_end f)))
+      unfolding newest_among
+      found_file =
+          let l = part_inside in
+          let z : i + 1 - 1 ≡ i = omega arith in
+          let s : get_or (spans_of (width_of record_size f) H 0 S) i (span 0 0) ≡ span (get_or xs i nowhere).first ((get_or xs i nowhere).end - (get_or xs i nowhere).first) =
+          rw (← g.spans) (span_at xs i l.0) in
+          record {
+            same = sym (rw (eq-eqb (length x) key_size size, index q, lt-ltb 0 (i + 1) (omega arith), z, s));
+            lies = let w = l.1 in omega arith;
+          }
+
+    module _ (none : 0 ≡ last_part 0 0 (parts_of xs b) x) where
+      module _ {n : ℕ} (r : n ≡ last_held_from held 0 0 j x) where
+        held_at : last_index (key_from x) 0 0 H ≡ n
+        held_at = sym (r ∙ rw g.entry (last_held_is x (journal_held (sound_journal j g.sound)).holding))
+
+      pub found_nowhere : 0 ≡ last_held_from held 0 0 j x → Finds found j b (Err (refusal_by NoSuchEntry 0))
+      unfolding newest_among
+      found_nowhere r = record { same = sym (rw (eq-eqb (length x) key_size size, index none, held_at r)); lies = tt }
+
+      -- an entry that was found by its account is used
+      pub found_used : (i : ℕ) → i + 1 ≡ last_held_from held 0 0 j x → (None ≡ used_entry (entry_in j i)) → ⊥
+      found_used i r u =
           let o = (journal_held (sound_journal j g.sound)).holding in
-          let m = index_most (key_from x) 0 0 H (omega arith) in
-          let l : e - 1 < length H = omega (arith, m, held_at size q none r) in
-          let t = w ∙ there_fields o (e - 1) l in
-          record { same = in_journal size q none r h w; lies = rw t (there_inside o (e - 1) l) }
+          let l : i < length H = omega (arith, held_at r, index_most (key_from x) 0 0 H (omega arith)) in
+          clash (ap (λ y. y.used) (there_fields o i l)) (none_found (entry_in j i) u)
+
+      pub found_journal : (i : ℕ) {y : Fields} → i + 1 ≡ last_held_from held 0 0 j x → y ≡ entry_in j i
+          → Finds found j b (Ok (InJournal (table_size + record_size * y.first) (record_size * y.records)))
+      unfolding newest_among
+      found_journal i {y} r w =
+          let o = (journal_held (sound_journal j g.sound)).holding in
+          let n = held_at r in
+          let z : i + 1 - 1 ≡ i = omega arith in
+          let l : i < length H = omega (arith, n, index_most (key_from x) 0 0 H (omega arith)) in
+          let t = w ∙ there_fields o i l in
+          record {
+            same = sym (rw (eq-eqb (length x) key_size size, index none, n, lt-ltb 0 (i + 1) (omega arith), z, t));
+            lies = rw t (there_inside o i l);
+          }
 
 -- ---- delivery's refusals first
 
-module _ {j : List ℕ} {f : Form} {b : List ℕ} {plan : Plan} (g : Planned j f b plan) (x : List ℕ) where
-  -- only a sound journal is delivered to
-  is_sound : {s h : ℕ} → answer_of (outcome_of j f b) ≡ Done s h → sound_in j ≡ true
-  unfolding outcome_of
-  is_sound {s} {h} q = by (sound_in j) q
-    where
-      by : (t : Bool) → answer_of (pick t (outcome_by (check_of (coding_of f) f b) (run (lines_in j) (held_of j) 0 0 0 (statements_of (coding_of f) f b))) (refused (refusal 21 0))) ≡ Done s h → t ≡ true
-      by true q = refl
-      by false q = absurd (let z : ◌≡◌ {A = ℕ} 0 1 = cc in omega arith)
-
-  -- a plan without a refusal can be searched
-  pub searchable : {s h : ℕ} → plan.answer ≡ Done s h → Searchable j f b plan.places plan.ends plan.count plan.entry
-  searchable {s} {h} e =
-      let a = g.arrived s h e in
+module _ (j : List ℕ) (f : Form) (b : List ℕ) where
+  -- a plan can be searched
+  pub searchable : {plan : Plan} → Plans j f b plan → Searchable j f b (take plan.count plan.bounds) plan.entry
+  searchable g =
       let w = g.storable in
       record {
         list = w.list;
-        sound = is_sound (sym g.answer ∙ e);
-        entry = a.entry;
-        named = w.named;
+        sound = g.sound;
+        entry = g.entry;
         inside = w.inside;
         reads = w.reads;
-        new = a.new;
-        spans = a.spans;
+        new = g.new;
+        spans = g.spans;
       }
 
-  pub found_planned : {s h : ℕ} {r : Found} → plan.answer ≡ Done s h
-      → Finds (pick (eqb (length x) key_size) (newest_among f (key_from x) (held_of j) (statements_of (coding_of f) f b)) (Refused 25 0)) j b r → Finds (newest_of j f b x) j b r
+  pub found_planned : {plan : Plan} → Plans j f b plan → (x : List ℕ) {r : Result Found Refusal}
+      → Finds (pick (eqb (length x) key_size) (newest_among f (key_from x) (held_of j) (statements_of (coding_of f) f b)) (Err (refusal_by NoSuchEntry 0))) j b r → Finds (newest_of j f b x) j b r
   unfolding newest_of
-  found_planned {s} {h} e r = record { same = r.same ∙ by (outcome_of j f b) (sym g.answer ∙ e); lies = r.lies }
-    where
-      by : (o : Outcome) → answer_of o ≡ Done s h → {y : Found} → y ≡ newest_by o y
-      by (delivered L a c) q = refl
-      by (refused r) q = absurd (let z : ◌≡◌ {A = ℕ} 0 1 = cc in omega arith)
+  found_planned g x r = rw g.outcome r
 
-  pub found_refused : {r : Refusal} → plan.answer ≡ D.Refused r → Finds (newest_of j f b x) j b (Refused r.number r.«record»)
+  pub found_refused : {r : Rejection} → outcome_of j f b ≡ refused r → (x : List ℕ) → Finds (newest_of j f b x) j b (Err r.refusal)
   unfolding newest_of
-  found_refused {r} e = record { same = by (outcome_of j f b) (sym g.answer ∙ e) _; lies = tt }
-    where
-      by : (o : Outcome) → answer_of o ≡ D.Refused r → (y : Found) → Refused r.number r.«record» ≡ newest_by o y
-      by (delivered L a c) q y = absurd (let z : ◌≡◌ {A = ℕ} 0 1 = cc in omega arith)
-      by (refused p) q y = let v : p ≡ r = cc in rw v
+  found_refused o x = record { same = sym (rw o); lies = tt }
 
 -- the part that a place names
-module _ {j : List ℕ} (f : Form) {b : List ℕ} (x : List ℕ) {r : Found} (g : Finds (newest_of j f b x) j b r) where
-  pub part_journal : {y n : ℕ} → r ≡ InJournal y n → (y + n ≤ length j) × (take (y + n - y) (drop y j) ≡ newest_part j f b x)
+module _ {j : List ℕ} (f : Form) {b : List ℕ} (x : List ℕ) {r : Result Found Refusal} (g : Finds (newest_of j f b x) j b r) where
+  pub part_journal : {y n : ℕ} → r ≡ Ok (InJournal y n) → take (y + n - y) (drop y j) ≡ newest_part j f b x
   unfolding newest_part
-  part_journal {y} {n} e = let l : Lies (InJournal y n) (length j) (length b) = rw e at g.lies in (l, cut y n j ∙ rw (← g.same, e))
+  part_journal {y} {n} e = cut y n j ∙ rw (← g.same, e)
 
-  pub part_file : {y n z : ℕ} → r ≡ InFile y n z → (y + n ≤ length b) × (take (y + n - y) (drop y b) ≡ newest_part j f b x)
+  pub part_file : {y n z : ℕ} → r ≡ Ok (InFile y n z) → take (y + n - y) (drop y b) ≡ newest_part j f b x
   unfolding newest_part
-  part_file {y} {n} {z} e = let l : Lies (InFile y n z) (length j) (length b) = rw e at g.lies in (l, cut y n b ∙ rw (← g.same, e))
+  part_file {y} {n} e = cut y n b ∙ rw (← g.same, e)
 
-  pub part_none : {n k : ℕ} → r ≡ Refused n k → [] ≡ newest_part j f b x
+  pub part_none : {e : Refusal} → r ≡ Err e → [] ≡ newest_part j f b x
   unfolding newest_part
   part_none e = sym (rw (← g.same, e))

@@ -5,9 +5,12 @@ use mathlib.Core.List.{List, [], ◌∷◌}
 use Prim.Native.Nat.{ℕ}
 use native.Mathlib.Omega.{arith}
 use lib.IntN.{pos}
+use Rattle.std.specs.Prelude.{Err}
 use Rattle.zones.specs.Copy.{same_bytes}
 use Rattle.framing.specs.declared.Form.{Form}
 use Rattle.framing.specs.Files.{All}
+use Rattle.framing.specs.Refusals.{reason_number, refusal_by}
+use Rattle.framing.specs.declared.refusals.Reason.TheVariants.{NotNext, FullJournal}
 use Rattle.grammar.specs.declared.Key.{Key}
 use Rattle.grammar.specs.Record.{same_key}
 use Rattle.grammar.specs.Statements.{Statement, sizes}
@@ -21,10 +24,9 @@ use Rattle.records.proofs.Small.{form, two, other, shared, february, march, firs
 use Rattle.bodies.specs.Bodies.{identical}
 use Rattle.journal_layout.specs.Chains.{held_among, last_among, judgement_of, of_account}
 use Rattle.journal_layout.specs.Layout.{lines_of, Journal, opened_of}
-use Rattle.journal.specs.declared.Delivery.TheVariants.{Done, Refused}
-use Rattle.journal.specs.declared.Refusal.{Refusal}
-use Rattle.journal.specs.Delivery.{refusal, verdict_of, delivered, refused, run, lines_in, outcome_of, content_of}
-use Rattle.journal.specs.Answers.{Delivers}
+use Rattle.journal.specs.declared.Rejection.{Rejection}
+use Rattle.journal.specs.Delivery.{rejection, verdict_of, delivered, refused, run, lines_in, outcome_of, content_of}
+use Rattle.journal.specs.Answers.{done, Delivers}
 use Rattle.journal.specs.Series.{Deliver, after}
 use Rattle.journal.specs.Runs.{Sent, EachStatement, Named, events_of, for_account, answers_of, answers_for, HadRoom}
 use Rattle.journal.specs.Isolation.{Isolation}
@@ -44,8 +46,8 @@ abbrev pub sent : Key → List ℕ → Sent
 sent k b = record { name = k; form = form 1; file = b }
 
 -- 22 at record 3: the neighbour's last one ends on 28 February with nothing
-abbrev pub broken : Refusal
-broken = record { number = 22; «record» = 3; expected_date = 20250228; expected_balance = pos 0 }
+abbrev pub broken : Rejection
+broken = record { refusal = refusal_by NotNext 3; expected = record { date = 20250228; balance = pos 0 } }
 
 -- ---- what each file comes to
 
@@ -88,7 +90,7 @@ module _ (b : List ℕ) {L : List Statement} {x y : ℕ} (e : outcome_of first (
   next_lines : lines_in next ≡ 4
   next_lines = lines_stay (opened room room_right) (form 1) b ∙ four_lines
 
-no_room : outcome_of (content_of first (form 1) two) (form 1) other ≡ refused (refusal 24 1)
+no_room : outcome_of (content_of first (form 1) two) (form 1) other ≡ refused (rejection (refusal_by FullJournal 1))
 unfolding run verdict_of judgement_of held_among last_among lines_of sizes same_key same_bytes
 no_room =
     outcome_by_lem (next_journal two two_come) (form 1) other
@@ -107,8 +109,8 @@ pub record WithoutRoom (O : List ℕ → List ℕ) (D : Deliver) : Type 0 where
   pub named : Named (sent her other ∷ [])
   pub named' : Named (sent neighbour two ∷ sent her other ∷ [])
   pub same : for_account her (sent her other ∷ []) ≡ for_account her (sent neighbour two ∷ sent her other ∷ [])
-  pub alone : answers_for D her (O room) (sent her other ∷ []) ≡ Done 1 0 ∷ []
-  pub behind : answers_for D her (O room) (sent neighbour two ∷ sent her other ∷ []) ≡ Refused (refusal 24 1) ∷ []
+  pub alone : answers_for D her (O room) (sent her other ∷ []) ≡ done 1 0 ∷ []
+  pub behind : answers_for D her (O room) (sent neighbour two ∷ sent her other ∷ []) ≡ Err (rejection (refusal_by FullJournal 1)) ∷ []
 
 -- TWO ACCOUNTS IN A FILE, hers and the neighbour's: both are stored; both are turned away with 22 where the neighbour has another one held. No answer is 23 or 24.
 pub record TwoAccounts (O : List ℕ → List ℕ) (D : Deliver) : Type 0 where
@@ -116,8 +118,8 @@ pub record TwoAccounts (O : List ℕ → List ℕ) (D : Deliver) : Type 0 where
   pub same : for_account her (sent her shared ∷ []) ≡ for_account her (sent neighbour nil ∷ sent her shared ∷ [])
   pub room_enough : All HadRoom (answers_of D (O room) (sent her shared ∷ []))
   pub room_enough' : All HadRoom (answers_of D (O room) (sent neighbour nil ∷ sent her shared ∷ []))
-  pub alone : answers_for D her (O room) (sent her shared ∷ []) ≡ Done 2 0 ∷ []
-  pub behind : answers_for D her (O room) (sent neighbour nil ∷ sent her shared ∷ []) ≡ Refused broken ∷ []
+  pub alone : answers_for D her (O room) (sent her shared ∷ []) ≡ done 2 0 ∷ []
+  pub behind : answers_for D her (O room) (sent neighbour nil ∷ sent her shared ∷ []) ≡ Err broken ∷ []
 
 -- what these files are named as
 her_file : EachStatement (λ t. t.key ≡ her) (form 1) other
@@ -167,23 +169,23 @@ module _ (O : List ℕ → List ℕ) (D : Deliver) (o : (j : List ℕ) → O j �
 
 module _ {O : List ℕ → List ℕ} {D : Deliver} (d : Isolation O D) where
   -- one that looks at the neighbour's last statement: 22, where hers alone is stored
-  pub stopped_by_neighbour : (r : Refusal) → r.number ≡ 22 → (D (O room) (form 1) other).answer ≡ Done 1 0 → (D (D (O room) (form 1) nil).journal (form 1) other).answer ≡ Refused r → ⊥
+  pub stopped_by_neighbour : (r : Rejection) → reason_number r.refusal.reason ≡ 22 → (D (O room) (form 1) other).answer ≡ done 1 0 → (D (D (O room) (form 1) nil).journal (form 1) other).answer ≡ Err r → ⊥
   unfolding for_account answers_for
   stopped_by_neighbour r n p q =
       let R = sent her other ∷ [] in
       let S = sent neighbour nil ∷ sent her other ∷ [] in
-      let x : answers_for D her (O room) R ≡ Done 1 0 ∷ [] = rw (her_own, p) in
-      let y : answers_for D her (O room) S ≡ Refused r ∷ [] = rw (her_own, apart, q) in
+      let x : answers_for D her (O room) R ≡ done 1 0 ∷ [] = rw (her_own, p) in
+      let y : answers_for D her (O room) S ≡ Err r ∷ [] = rw (her_own, apart, q) in
       let e =
       (d.isolated her R S (named_apart her R (her_file, tt)) (named_apart her S (nil_file, (her_file, tt))) (rw (her_own, apart)) room room room_right room_right
       (rw x (record { not_23 = omega arith; not_24 = omega arith }, tt))
       (rw y (record { not_23 = λ z. omega arith; not_24 = λ z. omega arith }, tt))).answers in
-      let z : Done 1 0 ∷ [] ≡ Refused r ∷ [] = sym x ∙ e ∙ y in
+      let z : done 1 0 ∷ [] ≡ Err r ∷ [] = sym x ∙ e ∙ y in
       let u : ◌≡◌ {A = ℕ} 0 1 = cc in
       omega arith
 
   -- one that forgets hers when the neighbour's is stored
-  pub forgets_hers : (D (O room) (form 1) other).answer ≡ Done 1 0 → Journal (D (O room) (form 1) other).journal (other_february ∷ [])
+  pub forgets_hers : (D (O room) (form 1) other).answer ≡ done 1 0 → Journal (D (O room) (form 1) other).journal (other_february ∷ [])
       → Journal (D (D (O room) (form 1) other).journal (form 1) nil).journal (february ∷ []) → ⊥
   unfolding for_account answers_for events_of after of_account
   forgets_hers p g h =

@@ -1,29 +1,32 @@
 -- THE ANSWERS AS THE PAPER GIVES THEM, of whatever meets the contracts: a delivery, the newest statement of an account, how many are held.
 use mathlib.Core.Path.{◌≡◌, refl, sym, ap, ◌∙◌}
 use mathlib.Core.List.{List}
-use Prim.Native.Nat.{ℕ, ◌+◌, ◌-◌, ◌*◌, ◌<◌, ◌≤◌}
-use native.Mathlib.Omega.{arith}
+use Prim.Native.Nat.{ℕ, ◌+◌, ◌-◌, ◌*◌, ◌<◌}
 use lib.Dec.{eqb}
+use lib.IntN.{pos}
 use lib.ListN.{length, get_or}
 use borrow.Author.Tests.{eq-eqb, ne_eqb, lt-ltb}
+use Rattle.std.specs.Prelude.{Result, Ok, Err}
 use Rattle.zones.specs.Choice.{pick}
 use Rattle.framing.specs.declared.Form.{Form}
 use Rattle.framing.specs.Files.{line_end, width_of}
+use Rattle.framing.specs.Refusals.{reason_number, reason_of, refusal_of}
+use Rattle.framing.specs.declared.refusals.Refusal.{Refusal}
+use Rattle.framing.proofs.Reasons.{reason_back, reason_positive}
+use Rattle.grammar.specs.Answer as G
 use Rattle.grammar.specs.Statements.{Statement}
-use Rattle.grammar.specs.Files.{statements_of}
+use Rattle.grammar.specs.Files.{statements_of, check_of}
 use Rattle.grammar.specs.Parts.{size_of, records_before, no_statement}
 use Rattle.records.specs.July.{record_size, coding_of}
+use Rattle.statements.proofs.Listed.{check_listed}
 use Rattle.entries.specs.Entries.{table_size}
 use Rattle.journal_layout.specs.Layout.{Journal}
 use Rattle.journal_layout.proofs.Exact.{journal_sound, journal_list}
 use Rattle.journal_layout.proofs.Paper.{not_sound}
 use Rattle.journal.specs.declared.Delivery.{Delivery}
-use Rattle.journal.specs.declared.Delivery.TheVariants.{Done, Refused}
-use Rattle.journal.specs.declared.Refusal.{Refusal}
+use Rattle.journal.specs.declared.Rejection.{Rejection}
 use Rattle.journal.specs.declared.Found.{Found}
-use Rattle.journal.specs.declared.Found.TheVariants as N
-use Rattle.journal.specs.declared.Holding.{Holding}
-use Rattle.journal.specs.declared.Holding.TheVariants as H
+use Rattle.journal.specs.declared.Found.TheVariants.{InJournal, InFile}
 use Rattle.journal.specs.Delivery.{Outcome, delivered, refused, outcome_of, content_of}
 use Rattle.journal.specs.Arrivals.{span, arrivals, spans_of, last_index}
 use Rattle.journal.specs.Newest.{key_size, key_from, newest_among, newest_of}
@@ -36,18 +39,26 @@ paper_answer : (o : Outcome) → paper_delivery (answer_of o) ≡ paper_outcome 
 paper_answer (delivered ss s h) = refl
 paper_answer (refused r) = refl
 
-pub foretells : {j : List ℕ} {f : Form} {b : List ℕ} {r : Delivery} → r ≡ answer_of (outcome_of j f b) → Foretells j f b r
+pub foretells : {j : List ℕ} {f : Form} {b : List ℕ} {r : Result Delivery Rejection} → r ≡ answer_of (outcome_of j f b) → Foretells j f b r
 foretells {j} {f} {b} p = record { paper = ap paper_delivery p ∙ paper_answer (outcome_of j f b); answer = p }
 
 -- at the code's return
-pub delivers : {j : List ℕ} {f : Form} {b : List ℕ} {r : Delivery} {j' : List ℕ} → r ≡ answer_of (outcome_of j f b) → j' ≡ content_of j f b → Delivers j f b r j'
+pub delivers : {j : List ℕ} {f : Form} {b : List ℕ} {r : Result Delivery Rejection} {j' : List ℕ} → r ≡ answer_of (outcome_of j f b) → j' ≡ content_of j f b → Delivers j f b r j'
 delivers {j} {f} {b} p c = record { paper = (foretells {j = j} {f = f} {b = b} p).paper; answer = p; content = c }
+
+-- what the check refuses has the number and the record of its answer
+pub file_refused : {j : List ℕ} {f : Form} {b : List ℕ} {r : Result Delivery Rejection} → Foretells j f b r → {hs : List Statement} → Journal j hs → {n i : ℕ} → check_of (coding_of f) f b ≡ G.refused n i
+    → paper_delivery r ≡ record { number = n; at = i; stored = 0; held = 0; expected_date = 0; expected_balance = pos 0 }
+unfolding outcome_of
+file_refused {j} {f} {b} {r} a g {n = n} {i = i} p =
+    let l : reason_number (reason_of n) ≡ n = rw p at (check_listed f b) in
+    a.paper ∙ rw (journal_sound g, p, l)
 
 -- ---- the newest statement: delivery's refusals, then 25
 
-module _ {j : List ℕ} {f : Form} {b x : List ℕ} {r : Found} (a : NewestPlace j f b x r) where
-  pub newest_refused : {q : Refusal} → outcome_of j f b ≡ refused q
-      → paper_newest r ≡ record { number = q.number; at = q.«record»; source = 0; first = 0; len = 0; line_end = 0 }
+module _ {j : List ℕ} {f : Form} {b x : List ℕ} {r : Result Found Refusal} (a : NewestPlace j f b x r) where
+  pub newest_refused : {q : Rejection} → outcome_of j f b ≡ refused q
+      → paper_newest r ≡ record { number = reason_number q.refusal.reason; at = q.refusal.«record»; source = 0; first = 0; len = 0; line_end = 0 }
   unfolding newest_of
   newest_refused o = ap paper_newest a.answer ∙ rw o
 
@@ -102,7 +113,7 @@ module _ {j : List ℕ} {f : Form} {b x : List ℕ} {r : Found} (a : NewestPlace
 
 -- ---- how many are held
 
-module _ {j : List ℕ} {r : Holding} (a : Holds j r) where
+module _ {j : List ℕ} {r : Result ℕ Refusal} (a : Holds j r) where
   pub held_unsound : ((ss : List Statement) → Journal j ss → ⊥) → paper_holding r ≡ record { number = 21; at = 0; statements = 0 }
   unfolding holding_of
   held_unsound n = ap paper_holding a.answer ∙ rw (not_sound n)
@@ -111,47 +122,34 @@ module _ {j : List ℕ} {r : Holding} (a : Holds j r) where
   unfolding holding_of
   held_there g = ap paper_holding a.answer ∙ rw (journal_sound g, journal_list g)
 
--- ---- the record determines the answer: where a refusal has a number, no two have the same
+-- ---- the record determines the answer: no two have the same
 
-abbrev pub Numbered : Delivery → Type 0
-Numbered (Done s h) = Unit
-Numbered (Refused r) = 1 ≤ r.number
+pub delivery_by_lem : (r : Result Delivery Rejection) → delivery_by (paper_delivery r) ≡ r
+delivery_by_lem (Ok d) = refl
+delivery_by_lem (Err r) = rw (reason_positive r.refusal.reason, reason_back r.refusal.reason)
 
-pub delivery_by_lem : (r : Delivery) → Numbered r → delivery_by (paper_delivery r) ≡ r
-delivery_by_lem (Done s h) k = refl
-delivery_by_lem (Refused r) k = rw (ne_eqb r.number 0 (λ z. omega arith))
+pub delivery_apart : {r q : Result Delivery Rejection} → paper_delivery r ≡ paper_delivery q → r ≡ q
+delivery_apart {r} {q} p = sym (delivery_by_lem r) ∙ ap delivery_by p ∙ delivery_by_lem q
 
-pub delivery_apart : {r q : Delivery} → Numbered r → Numbered q → paper_delivery r ≡ paper_delivery q → r ≡ q
-delivery_apart {r} {q} k l p = sym (delivery_by_lem r k) ∙ ap delivery_by p ∙ delivery_by_lem q l
-
-abbrev pub NumberedFound : Found → Type 0
-NumberedFound (N.InJournal x n) = Unit
-NumberedFound (N.InFile x n e) = Unit
-NumberedFound (N.Refused n r) = 1 ≤ n
-
-abbrev found_from : PaperNewest → Found
+abbrev found_from : PaperNewest → Result Found Refusal
 found_from p =
-    pick (eqb p.number 0) (pick (eqb p.source 1) (N.InJournal p.first p.len) (N.InFile p.first p.len p.line_end))
-    (N.Refused p.number p.at)
+    pick (eqb p.number 0) (pick (eqb p.source 1) (Ok (InJournal p.first p.len)) (Ok (InFile p.first p.len p.line_end)))
+    (Err (refusal_of p.number p.at))
 
-from_found : (r : Found) → NumberedFound r → found_from (paper_newest r) ≡ r
-from_found (N.InJournal x n) k = refl
-from_found (N.InFile x n e) k = refl
-from_found (N.Refused n r) k = rw (ne_eqb n 0 (λ z. omega arith))
+from_found : (r : Result Found Refusal) → found_from (paper_newest r) ≡ r
+from_found (Ok (InJournal x n)) = refl
+from_found (Ok (InFile x n e)) = refl
+from_found (Err e) = rw (reason_positive e.reason, reason_back e.reason)
 
-pub newest_apart : {r q : Found} → NumberedFound r → NumberedFound q → paper_newest r ≡ paper_newest q → r ≡ q
-newest_apart {r} {q} k l p = sym (from_found r k) ∙ ap found_from p ∙ from_found q l
+pub newest_apart : {r q : Result Found Refusal} → paper_newest r ≡ paper_newest q → r ≡ q
+newest_apart {r} {q} p = sym (from_found r) ∙ ap found_from p ∙ from_found q
 
-abbrev pub NumberedHolding : Holding → Type 0
-NumberedHolding (H.Statements n) = Unit
-NumberedHolding (H.Refused n r) = 1 ≤ n
+abbrev holding_from : PaperHolding → Result ℕ Refusal
+holding_from p = pick (eqb p.number 0) (Ok p.statements) (Err (refusal_of p.number p.at))
 
-abbrev holding_from : PaperHolding → Holding
-holding_from p = pick (eqb p.number 0) (H.Statements p.statements) (H.Refused p.number p.at)
+from_holding : (r : Result ℕ Refusal) → holding_from (paper_holding r) ≡ r
+from_holding (Ok n) = refl
+from_holding (Err e) = rw (reason_positive e.reason, reason_back e.reason)
 
-from_holding : (r : Holding) → NumberedHolding r → holding_from (paper_holding r) ≡ r
-from_holding (H.Statements n) k = refl
-from_holding (H.Refused n r) k = rw (ne_eqb n 0 (λ z. omega arith))
-
-pub holding_apart : {r q : Holding} → NumberedHolding r → NumberedHolding q → paper_holding r ≡ paper_holding q → r ≡ q
-holding_apart {r} {q} k l p = sym (from_holding r k) ∙ ap holding_from p ∙ from_holding q l
+pub holding_apart : {r q : Result ℕ Refusal} → paper_holding r ≡ paper_holding q → r ≡ q
+holding_apart {r} {q} p = sym (from_holding r) ∙ ap holding_from p ∙ from_holding q

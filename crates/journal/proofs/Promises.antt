@@ -6,14 +6,15 @@ use Prim.Native.Nat.{ℕ, ◌-◌, ◌<◌, ◌≤◌}
 use native.Mathlib.Omega.{arith}
 use lib.ListN.{length, get_or}
 use borrow.Author.Tests.{ne_eqb, lt-ltb, le-ltb}
+use Rattle.std.specs.Prelude.{Err}
 use Rattle.framing.specs.declared.Form.{Form}
+use Rattle.framing.specs.Refusals.{refusal_by}
+use Rattle.framing.specs.declared.refusals.Reason.TheVariants.{NoSuchEntry}
 use Rattle.grammar.specs.Parts.{no_statement}
-use Rattle.readers.specs.declared.Place.TheVariants as P
 use Rattle.bodies.specs.Bodies.{body_of}
 use Rattle.journal_layout.specs.Test.{sound_in, held_of, entry_place_of, entry_body_of}
 use Rattle.journal_layout.proofs.Exact.{journal_sound, journal_list, sound_journal}
-use Rattle.journal.specs.declared.Delivery.TheVariants.{Refused}
-use Rattle.journal.specs.declared.Refusal.{Refusal}
+use Rattle.journal.specs.declared.Rejection.{Rejection}
 use Rattle.journal.specs.Delivery.{Outcome, delivered, refused, outcome_of}
 use Rattle.journal.specs.Answers.{answer_of}
 use Rattle.journal.specs.Promises.{Promise, Adds}
@@ -26,7 +27,7 @@ module _ (j : List ℕ) (h : sound_in j ≡ true) where
   unfolding entry_body_of entry_place_of
   body_of_entry e p q = rw (h, ne_eqb e 0 (omega arith), le-ltb (length (held_of j)) e q)
 
-  past_the_last : (e : ℕ) → length (held_of j) < e → entry_place_of j e ≡ P.Refused 25 0
+  past_the_last : (e : ℕ) → length (held_of j) < e → entry_place_of j e ≡ Err (refusal_by NoSuchEntry 0)
   unfolding entry_place_of
   past_the_last e p = rw (h, ne_eqb e 0 (omega arith), lt-ltb (length (held_of j)) e p)
 
@@ -63,6 +64,6 @@ module _ (j : List ℕ) (h : sound_in j ≡ true) where
         unchanged = λ r e. unchanged j f b (turned_away (outcome_of j f b) e);
       }
     where
-      turned_away : (o : Outcome) {r : Refusal} → answer_of o ≡ Refused r → o ≡ refused r
+      turned_away : (o : Outcome) {r : Rejection} → answer_of o ≡ Err r → o ≡ refused r
       turned_away (delivered L s t) e = absurd (let z : ◌≡◌ {A = ℕ} 0 1 = cc in omega arith)
       turned_away (refused q) {r} e = let v : q ≡ r = cc in rw v

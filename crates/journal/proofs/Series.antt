@@ -7,6 +7,7 @@ use native.Mathlib.Nat.{zero-add}
 use native.Mathlib.Omega.{arith}
 use lib.ListN.{length}
 use lib.IntN.{ℤ, ◌+ℤ◌}
+use Rattle.std.specs.Prelude.{Result, Ok, Err}
 use Rattle.zones.specs.Choice.{pick}
 use Rattle.zones.proofs.Copies.{equal_same}
 use Rattle.framing.specs.declared.Form.{Form}
@@ -22,9 +23,10 @@ use Rattle.journal_layout.specs.Chains.{held_among, Chained, of_account, NeverFa
 use Rattle.journal_layout.specs.Layout.{is_length, journal_of, Journal, opened_of}
 use Rattle.journal_layout.proofs.Chain.{chain_never_falls}
 use Rattle.journal_layout.proofs.Accounts.{all_account}
-use Rattle.journal.specs.declared.Delivery.TheVariants.{Done}
+use Rattle.journal.specs.declared.Delivery.{Delivery}
+use Rattle.journal.specs.declared.Rejection.{Rejection}
 use Rattle.journal.specs.Delivery.{Outcome, delivered, refused, run, lines_in, outcome_of, content_of}
-use Rattle.journal.specs.Answers.{answer_of, Delivers}
+use Rattle.journal.specs.Answers.{done, answer_of, Delivers}
 use Rattle.journal.specs.Arrivals.{arrivals, movements_in, Summed}
 use Rattle.journal.specs.Series.{Event, deliver, Deliver, accepted_by, after_one, after, held_after_one, held_along, held_after, accepted, WhollyHeld, Demand3}
 use Rattle.journal.proofs.Values.{held_append}
@@ -187,9 +189,18 @@ wholly_held {j} {L} {ss} d g c r h =
     let l : journal_of (lines_in j) L ≡ j = rw (lines_are d) (sym d.layout) in
     rw (o, l)
 
+-- the two counts of an answer
+abbrev stores : Result Delivery Rejection → ℕ
+stores (Ok d) = d.stored
+stores (Err r) = 0
+
+abbrev holds : Result Delivery Rejection → ℕ
+holds (Ok d) = d.held
+holds (Err r) = 0
+
 -- an answer without a refusal
-pub answered : (o : Outcome) {s h : ℕ} → answer_of o ≡ Done s h → (L : List Statement) × (o ≡ delivered L s h)
-answered (delivered L x y) {s} {h} e = let p : x ≡ s = cc in let q : y ≡ h = cc in (L, rw (p, q))
+pub answered : (o : Outcome) {s h : ℕ} → answer_of o ≡ done s h → (L : List Statement) × (o ≡ delivered L s h)
+answered (delivered L x y) {s} {h} e = let p : x ≡ s = ap stores e in let q : y ≡ h = ap holds e in (L, rw (p, q))
 answered (refused r) e = absurd (let z : ◌≡◌ {A = ℕ} 0 1 = cc in omega arith)
 
 -- ---- DEMAND 3
@@ -198,10 +209,10 @@ module _ (j : List ℕ) (right : is_length (length j) ≡ true) where
   from_opening : (es : List Event) → Journal (after ours (opened_of j) es) (held_after ours (opened_of j) es)
   from_opening es = series (opened j right) es
 
-  module _ (es : List Event) (f : Form) (b : List ℕ) (s h : ℕ) (done : (ours (after ours (opened_of j) es) f b).answer ≡ Done s h) where
+  module _ (es : List Event) (f : Form) (b : List ℕ) (s h : ℕ) (yes : (ours (after ours (opened_of j) es) f b).answer ≡ done s h) where
     -- what this file came to
     abbrev came : (L : List Statement) × Stored (from_opening es) f b L s h
-    came = let y = answered (outcome_of (after ours (opened_of j) es) f b) done in (y.0, stored (from_opening es) f b y.1)
+    came = let y = answered (outcome_of (after ours (opened_of j) es) f b) yes in (y.0, stored (from_opening es) f b y.1)
 
     -- a file of the same statements is wholly held ever after
     sent_alike : (later : List Event) (g : Form) (c : List ℕ) → Reads (coding_of g) g c (statements_of (coding_of f) f b)
@@ -250,7 +261,7 @@ deliver_demand3 O D o d = let p : O ≡ opened_of = λ i j. o j i in rw (p, deli
 
 -- whatever meets it holds the very file wholly ever after: its own line end is one of the three
 pub same_again : {O : List ℕ → List ℕ} {D : Deliver} → Demand3 O D
-    → (j : List ℕ) → is_length (length j) ≡ true → (es : List Event) (f : Form) (b : List ℕ) (s h : ℕ) → (D (after D (O j) es) f b).answer ≡ Done s h
+    → (j : List ℕ) → is_length (length j) ≡ true → (es : List Event) (f : Form) (b : List ℕ) (s h : ℕ) → (D (after D (O j) es) f b).answer ≡ done s h
     → (later : List Event) → WhollyHeld D (after D (O j) (es ++ (deliver f b ∷ later))) f b (statements_of (coding_of f) f b)
 same_again d j l es f b s h e later =
     let r = d.reads j l es f b s h e in rw (relined_own r) at (d.again j l es f b s h e later f r.line)

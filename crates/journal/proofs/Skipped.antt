@@ -19,7 +19,7 @@ use Rattle.journal_layout.specs.Chains.{held_among, of_account}
 use Rattle.journal_layout.specs.Layout.{is_length, Journal}
 use Rattle.journal_layout.proofs.Chain.{account_append, InTurn, chain_in_turn}
 use Rattle.journal_layout.proofs.Accounts.{all_account}
-use Rattle.journal.specs.declared.Delivery.TheVariants.{Done}
+use Rattle.journal.specs.Answers.{done}
 use Rattle.journal.specs.Arrivals.{arrivals}
 use Rattle.journal.specs.Series.{Event, deliver, Deliver, after, after_one, held_after_one, held_along, held_after, accepted, Demand3}
 use Rattle.journal.proofs.Values.{held_append}
@@ -89,7 +89,7 @@ module _ {O : List ℕ → List ℕ} {D : Deliver} (d : Demand3 O D) (j : List �
   pub never_accepted : (s h : Statement) (before behind : List Statement) → Writable july s → held_among s H ≡ false
       → of_account s.key H ≡ before ++ (h ∷ behind) → s.old_date < h.new_date
       → (later : List Event) (f : Form) (b : List ℕ) (x y : ℕ) (front back : List Statement) → statements_of (coding_of f) f b ≡ front ++ (s ∷ back)
-      → (D (after D (O j) (es ++ later)) f b).answer ≡ Done x y → ⊥
+      → (D (after D (O j) (es ++ later)) f b).answer ≡ done x y → ⊥
   unfolding held_along
   never_accepted s h before behind v n o u later f b x y front back q e =
       let ss = statements_of (coding_of f) f b in

@@ -3,9 +3,10 @@ use mathlib.Core.Path.{◌≡◌, refl, ap, ap₂, ◌∙◌}
 use mathlib.Core.List.{List, [], ◌∷◌, ◌++◌, append-nil}
 use Prim.Native.Nat.{ℕ, suc, ◌+◌, ◌-◌, ◌*◌, ◌/◌, ◌<◌, ◌≤◌}
 use native.Mathlib.Nat.{add-sub_cancel_left, add-zero}
+use native.Mathlib.Numerals.{add-one}
 use native.Mathlib.Omega.{arith}
 use lib.ListN.{length, take, drop, get_or, length-append, length-drop, drop_of_length-le}
-use lib.Seq.{drop-drop, length-take-le, take_all}
+use lib.Seq.{drop-cons, drop-drop, length-take-le, take_all}
 use borrow.Rule.Slice.PartMut.{put_mid}
 use Rattle.framing.specs.declared.Form.{Form}
 use Rattle.framing.specs.Files.{line_end, width_of}
@@ -24,7 +25,8 @@ use Rattle.entries.specs.Answers.{PutEntry}
 use Rattle.journal_layout.specs.Layout.{entry_of}
 use Rattle.journal_layout.proofs.Holding.{length_entry_of}
 use Rattle.journal_layout.proofs.Adding.{entry_value}
-use Rattle.journal.specs.Plans.{parts_from, Reading, entry_written, body_written, written, written_all, Roomy, Storable}
+use Rattle.journal.specs.declared.Bounds.{Bounds}
+use Rattle.journal.specs.Plans.{part_of, parts_of, nowhere, Reading, entry_written, body_written, written, written_all, Roomy, Storable}
 
 module _ (j : List ℕ) (e k : ℕ) {f : Form} {part : List ℕ} {s : Statement} (r : Reads (coding_of f) f part (s ∷ [])) (h : e < most_entries) (l : line_at (k + size_of s) ≤ length j) where
   pub size_is : length part / (record_size + line_end f) ≡ size_of s
@@ -65,20 +67,17 @@ module _ (j : List ℕ) (e k : ℕ) {f : Form} {part : List ℕ} {s : Statement}
 
 -- ---- all of them
 
-module _ {j₀ : List ℕ} {f : Form} {b places ends : List ℕ} {count entry line : ℕ} (w : Storable j₀ f b places ends count entry line) where
+module _ {j₀ : List ℕ} {f : Form} {b : List ℕ} {xs : List Bounds} {entry line : ℕ} (w : Storable j₀ f b xs entry line) where
   -- p are written; those of Q are left
   pub record Left (p k : ℕ) (j : List ℕ) : Type 0 where
     pub Q : List Statement
-    pub upto : p ≤ count
     pub same : length j ≡ length j₀
-    pub reads : Reading f (parts_from (count - p) p places ends b) Q
+    pub reads : Reading f (parts_of (drop p xs) b) Q
     pub room : Roomy (entry + p) k (length j₀) Q
     pub rest : written_all (entry + p) k Q j ≡ written_all entry line w.list j₀
 
   pub begins : Left 0 line j₀
-  begins =
-      let z : count - 0 ≡ count = omega arith in
-      record { Q = w.list; upto = omega arith; same = refl; reads = rw z w.reads; room = rw (add-zero entry) w.room; rest = rw (add-zero entry) }
+  begins = record { Q = w.list; same = refl; reads = w.reads; room = rw (add-zero entry) w.room; rest = rw (add-zero entry) }
 
   module _ {p k : ℕ} {j : List ℕ} (g : Left p k j) where
     -- what the next one is
@@ -86,36 +85,32 @@ module _ {j₀ : List ℕ} {f : Form} {b places ends : List ℕ} {count entry li
       pub s : Statement
       pub Q' : List Statement
       pub is : g.Q ≡ s ∷ Q'
-      pub part : Reads (coding_of f) f (take (get_or ends p 0 - get_or places p 0) (drop (get_or places p 0) b)) (s ∷ [])
-      pub others : Reading f (parts_from (count - (p + 1)) (p + 1) places ends b) Q'
+      pub part : Reads (coding_of f) f (part_of (get_or xs p nowhere) b) (s ∷ [])
+      pub others : Reading f (parts_of (drop (p + 1) xs) b) Q'
       pub entry_there : entry + p < most_entries
       pub lines_there : line_at (k + size_of s) ≤ length j₀
       pub room_left : Roomy (entry + (p + 1)) (k + size_of s) (length j₀) Q'
 
-    pub next : p < count → Next
-    unfolding parts_from
-    next h = by g.Q refl g.room (rw z at g.reads)
+    pub next : p < length xs → Next
+    next h = by g.Q refl g.room (rw (drop-cons xs p nowhere h) at g.reads)
       where
-        z : count - p ≡ suc (count - (p + 1))
-        z = omega arith
-
         y : entry + p + 1 ≡ entry + (p + 1)
         y = omega arith
 
-        by : (Q : List Statement) → g.Q ≡ Q → Roomy (entry + p) k (length j₀) Q → Reading f (parts_from (suc (count - (p + 1))) p places ends b) Q → Next
+        by : (Q : List Statement) → g.Q ≡ Q → Roomy (entry + p) k (length j₀) Q
+            → Reading f (part_of (get_or xs p nowhere) b ∷ parts_of (drop (suc p) xs) b) Q → Next
         by [] e m r = absurd r
         by (s ∷ Q) e m r =
-            record { s = s; Q' = Q; is = e; part = r.0; others = r.1; entry_there = m.0; lines_there = m.1; room_left = rw y at m.2 }
+            record { s = s; Q' = Q; is = e; part = r.0; others = rw (add-one p) r.1; entry_there = m.0; lines_there = m.1; room_left = rw y at m.2 }
 
     -- one more is written
-    pub goes_on : {n : ℕ} {j' : List ℕ} (h : p < count) → length j' ≡ length j → (n ≡ size_of (next h).s) → j' ≡ written (entry + p) k (next h).s j → Left (p + 1) (k + n) j'
+    pub goes_on : {n : ℕ} {j' : List ℕ} (h : p < length xs) → length j' ≡ length j → (n ≡ size_of (next h).s) → j' ≡ written (entry + p) k (next h).s j → Left (p + 1) (k + n) j'
     unfolding written_all
     goes_on {n} {j'} h l m e =
         let x = next h in
         let y : entry + (p + 1) ≡ entry + p + 1 = omega arith in
         record {
           Q = x.Q';
-          upto = omega arith;
           same = l ∙ g.same;
           reads = x.others;
           room = rw m x.room_left;
@@ -123,12 +118,9 @@ module _ {j₀ : List ℕ} {f : Form} {b places ends : List ℕ} {count entry li
         }
 
     -- none is left
-    ends_there : count ≤ p → j ≡ written_all entry line w.list j₀
-    unfolding parts_from written_all
-    ends_there h =
-        let u = g.upto in
-        let z : count - p ≡ 0 = omega arith in
-        none g.Q (rw z at g.reads) g.rest
+    ends_there : length xs ≤ p → j ≡ written_all entry line w.list j₀
+    unfolding written_all
+    ends_there h = none g.Q (rw (drop_of_length-le xs {i = p} h) at g.reads) g.rest
       where
         none : (Q : List Statement) → Reading f [] Q → written_all (entry + p) k Q j ≡ written_all entry line w.list j₀ → j ≡ written_all entry line w.list j₀
         none [] r e = e
@@ -147,12 +139,12 @@ reading_one f (h ∷ hs) (s ∷ P) (t ∷ Q) p q =
     ap₂ ◌∷◌ x (reading_one f hs P Q p.1 q.1)
 
 -- what the loop keeps
-pub record Going (j₀ : List ℕ) (f : Form) (b places ends : List ℕ) (count entry line p k : ℕ) (j : List ℕ) : Type 0 where
-  pub whole : Storable j₀ f b places ends count entry line
+pub record Going (j₀ : List ℕ) (f : Form) (b : List ℕ) (xs : List Bounds) (entry line p k : ℕ) (j : List ℕ) : Type 0 where
+  pub whole : Storable j₀ f b xs entry line
   pub left : Left whole p k j
 
-pub all_stored : {j₀ : List ℕ} {f : Form} {b places ends : List ℕ} {count entry line p k : ℕ} {j : List ℕ} → Going j₀ f b places ends count entry line p k j → count ≤ p
-    → (ss : List Statement) → Reading f (parts_from count 0 places ends b) ss → j ≡ written_all entry line ss j₀
-all_stored {j₀} {f} {b} {places} {ends} {count} {entry} {line} g h ss r =
+pub all_stored : {j₀ : List ℕ} {f : Form} {b : List ℕ} {xs : List Bounds} {entry line p k : ℕ} {j : List ℕ} → Going j₀ f b xs entry line p k j → length xs ≤ p
+    → (ss : List Statement) → Reading f (parts_of xs b) ss → j ≡ written_all entry line ss j₀
+all_stored {j₀} {f} {b} {xs} {entry} {line} g h ss r =
     let w = g.whole in
-    ends_there w g.left h ∙ ap (λ l. written_all entry line l j₀) (reading_one f (parts_from count 0 places ends b) w.list ss w.reads r)
+    ends_there w g.left h ∙ ap (λ l. written_all entry line l j₀) (reading_one f (parts_of xs b) w.list ss w.reads r)

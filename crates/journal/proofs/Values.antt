@@ -2,13 +2,16 @@
 use mathlib.Core.Path.{◌≡◌, refl, sym, ap, ap₂, ◌∙◌}
 use mathlib.Core.Bool.{Bool, true, false, ◌||◌}
 use mathlib.Core.List.{List, [], ◌∷◌, ◌++◌}
-use Prim.Native.Nat.{ℕ, zero, suc, ◌+◌, ◌-◌, ◌/◌, ◌<◌, ◌≤◌}
+use Prim.Native.Nat.{ℕ, suc, ◌+◌, ◌-◌, ◌/◌, ◌<◌, ◌≤◌}
 use native.Mathlib.Omega.{arith}
 use lib.Dec.{leb, ltb}
-use lib.ListN.{length, take, drop, length-append}
+use lib.ListN.{length, length-append}
 use borrow.Author.Tests.{ltb-true, leb-true}
+use Rattle.std.specs.Prelude.{Result, Ok, Err}
 use Rattle.zones.specs.Choice.{pick}
 use Rattle.framing.specs.declared.Form.{Form}
+use Rattle.framing.specs.Refusals.{refusal_by}
+use Rattle.framing.specs.declared.refusals.Reason.TheVariants.{FullContents, FullJournal}
 use Rattle.framing.specs.Files.{width_of}
 use Rattle.grammar.specs.declared.Key.{Key}
 use Rattle.grammar.specs.Record.{same_key}
@@ -30,10 +33,12 @@ use Rattle.journal_layout.specs.Layout.{lines_of}
 use Rattle.journal_layout.specs.Test.{held_of}
 use Rattle.journal_layout.proofs.Holding.{Holding, later_value, judged_value}
 use Rattle.journal_layout.proofs.Exact.{journal_held, sound_journal}
+use Rattle.journal.specs.declared.Bounds.{Bounds}
 use Rattle.journal.specs.declared.Verdict.{Verdict}
-use Rattle.journal.specs.declared.Verdict.TheVariants.{Hold, Store, Refuse}
-use Rattle.journal.specs.Delivery.{refusal, not_next, is_held, verdict_by, verdict_of, lines_in}
-use Rattle.journal.specs.Plans.{parts_from, held_in, last_in, judged_in, judged_all, Reading, Turned}
+use Rattle.journal.specs.declared.Verdict.TheVariants.{Hold, Store}
+use Rattle.journal.specs.declared.Rejection.{Rejection}
+use Rattle.journal.specs.Delivery.{rejection, not_next, is_held, verdict_by, verdict_of, lines_in}
+use Rattle.journal.specs.Plans.{part_of, parts_of, held_in, last_in, judged_in, judged_all, Reading, Turned}
 
 -- ---- two rows of statements
 
@@ -108,38 +113,37 @@ reading_length f [] (s ∷ P) r = absurd r
 reading_length f (h ∷ hs) [] r = absurd r
 reading_length f (h ∷ hs) (s ∷ P) r = ap suc (reading_length f hs P r.1)
 
-pub length_parts : (n p : ℕ) (places ends b : List ℕ) → length (parts_from n p places ends b) ≡ n
-unfolding parts_from
-length_parts zero p places ends b = refl
-length_parts (suc n) p places ends b = ap suc (length_parts n (p + 1) places ends b)
+pub length_parts : (xs : List Bounds) (b : List ℕ) → length (parts_of xs b) ≡ length xs
+length_parts [] b = refl
+length_parts (x ∷ xs) b = ap suc (length_parts xs b)
 
 -- at its return
-module _ (j : List ℕ) (f : Form) (b places ends : List ℕ) (held count left at end : ℕ) where
-  abbrev x : List ℕ
-  x = take (end - at) (drop at b)
+module _ (j : List ℕ) (f : Form) (b : List ℕ) (xs : List Bounds) (held left : ℕ) (x : Bounds) where
+  abbrev h : List ℕ
+  h = part_of x b
 
-  pub turned : {g : Judgement} {o : List ℕ} {v : Verdict} → g ≡ judged_all j held f (parts_from count 0 places ends b) x → o ≡ record_at_of x 0
-      → v ≡ verdict_by g (look_of o).day (look_of o).amount (held + count) left (length x / width_of record_size f) (at / width_of record_size f + 1)
-      → Turned j f b places ends held count left at end v
+  pub turned : {g : Judgement} {o : List ℕ} {v : Result Verdict Rejection} → g ≡ judged_all j held f (parts_of xs b) h → o ≡ record_at_of h 0
+      → v ≡ verdict_by g (look_of o).day (look_of o).amount (held + length xs) left (length h / width_of record_size f) (x.first / width_of record_size f + 1)
+      → Turned j f b xs held left x v
   turned p q e =
       record {
         verdict = λ t.
-            let hs = parts_from count 0 places ends b in
+            let hs = parts_of xs b in
             let c = reading_length f hs t.list t.planned in
-            let d = length_parts count 0 places ends b in
+            let d = length_parts xs b in
             let l = length-append (held_of j) t.list in
             let h = t.entry in
             e
-            ∙ verdict_value t.reads hs t.list (lines_in j) (held + count) left (length x / width_of record_size f) (at / width_of record_size f + 1)
+            ∙ verdict_value t.reads hs t.list (lines_in j) (held + length xs) left (length (part_of x b) / width_of record_size f) (x.first / width_of record_size f + 1)
             (journal_held (sound_journal j t.sound)).holding t.planned (rw h at p) q (omega arith) t.room (part_count t.reads);
       }
 
 -- ---- what a verdict says
 
-abbrev made : Judgement → (held follows entry lines : Bool) → (at : ℕ) → Verdict
-made j a b c d at = pick a Hold (pick b (pick c (pick d Store (Refuse (refusal 24 at))) (Refuse (refusal 23 at))) (Refuse (not_next j at)))
+abbrev made : Judgement → (held follows entry lines : Bool) → (at : ℕ) → Result Verdict Rejection
+made j a b c d at = pick a (Ok Hold) (pick b (pick c (pick d (Ok Store) (Err (rejection (refusal_by FullJournal at)))) (Err (rejection (refusal_by FullContents at)))) (Err (not_next j at)))
 
-made_room : (j : Judgement) (a b c d : Bool) (at : ℕ) → made j a b c d at ≡ Store → (c ≡ true) × (d ≡ true)
+made_room : (j : Judgement) (a b c d : Bool) (at : ℕ) → made j a b c d at ≡ Ok Store → (c ≡ true) × (d ≡ true)
 made_room j true b c d at e = absurd (let z : ◌≡◌ {A = ℕ} 0 1 = cc in omega arith)
 made_room j false false c d at e = absurd (let z : ◌≡◌ {A = ℕ} 0 1 = cc in omega arith)
 made_room j false true false d at e = absurd (let z : ◌≡◌ {A = ℕ} 0 1 = cc in omega arith)
@@ -147,7 +151,7 @@ made_room j false true true false at e = absurd (let z : ◌≡◌ {A = ℕ} 0 1
 made_room j false true true true at e = (refl, refl)
 
 -- where one is stored there is an entry, and there are lines
-pub has_room : (n : ℕ) (hs : List Statement) (s : Statement) (at : ℕ) → verdict_of n hs s at ≡ Store → (length hs < most_entries) × (size_of s ≤ n - lines_of hs)
+pub has_room : (n : ℕ) (hs : List Statement) (s : Statement) (at : ℕ) → verdict_of n hs s at ≡ Ok Store → (length hs < most_entries) × (size_of s ≤ n - lines_of hs)
 unfolding verdict_of
 has_room n hs s at e =
     let j = judgement_of s hs in

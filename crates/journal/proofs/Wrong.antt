@@ -6,10 +6,13 @@ use Prim.Native.Nat.{ℕ, ◌≤◌}
 use native.Mathlib.Omega.{arith}
 use lib.IntN.{pos}
 use lib.ListN.{length, replicate, length-replicate}
+use Rattle.std.specs.Prelude.{Result, Err}
 use Rattle.zones.specs.Choice.{pick}
 use Rattle.zones.specs.Copy.{same_bytes}
 use Rattle.framing.specs.declared.Form.{Form}
 use Rattle.framing.specs.Files.{All}
+use Rattle.framing.specs.Refusals.{refusal_by}
+use Rattle.framing.specs.declared.refusals.Reason.TheVariants.{NotNext}
 use Rattle.grammar.specs.Answer.{refused}
 use Rattle.grammar.specs.Record.{same_key}
 use Rattle.grammar.specs.Statements.{Statement, sizes}
@@ -26,10 +29,9 @@ use Rattle.journal_layout.specs.Chains.{held_among, last_among, judgement_of, Ch
 use Rattle.journal_layout.specs.Layout.{most_lines, is_length, lines_of, journal_of, Journal, opened_of}
 use Rattle.journal_layout.proofs.Exact.{sound_unique, journal_length}
 use Rattle.journal.specs.declared.Delivery.{Delivery}
-use Rattle.journal.specs.declared.Delivery.TheVariants.{Done, Refused}
-use Rattle.journal.specs.declared.Refusal.{Refusal}
+use Rattle.journal.specs.declared.Rejection.{Rejection}
 use Rattle.journal.specs.Delivery.{verdict_of, delivered, refused as refused_with, run, lines_in, outcome_of, content_of}
-use Rattle.journal.specs.Answers.{paper_delivery, Delivers}
+use Rattle.journal.specs.Answers.{paper_delivery, done, Delivers}
 use Rattle.journal.specs.Arrivals.{arrivals}
 use Rattle.journal.specs.Series.{deliver, Deliver, after, held_along, Demand3}
 use Rattle.journal.proofs.Delivered.{file_writable, lines_are, outcome_by_lem, opened_lines, opened}
@@ -88,11 +90,11 @@ pub two_come : outcome_of (opened_of room) (form 1) two ≡ delivered (february 
 unfolding run verdict_of judgement_of held_among last_among lines_of sizes same_key same_bytes
 two_come = outcome_by_lem (opened room room_right) (form 1) two ∙ rw (two_accepted, two_hold, four_lines, two_differ)
 
-pub right_nil : Delivers (opened_of room) (form 1) nil (Done 1 0) (journal_of 4 (february ∷ []))
+pub right_nil : Delivers (opened_of room) (form 1) nil (done 1 0) (journal_of 4 (february ∷ []))
 unfolding content_of
 right_nil = delivers (rw nil_comes) (rw (nil_comes, four_lines))
 
-pub right_two : Delivers (opened_of room) (form 1) two (Done 2 0) (journal_of 4 (february ∷ march ∷ []))
+pub right_two : Delivers (opened_of room) (form 1) two (done 2 0) (journal_of 4 (february ∷ march ∷ []))
 unfolding content_of
 right_two = delivers (rw two_come) (rw (two_come, four_lines))
 
@@ -124,32 +126,32 @@ two_lines_long = journal_length (february_alone 2 (omega arith) (omega arith))
 
 -- THE LAST SEEN, NOT THE LAST HELD: the journal ends with february; of a file the next statement would be stored, and the one behind it does not follow. Expected is what that next one ends with.
 pub right_backwards : Delivers (journal_of 4 (february ∷ [])) (form 1) backwards
-    (Refused (record { number = 22; «record» = 3; expected_date = 20250331; expected_balance = pos 0 })) (journal_of 4 (february ∷ []))
+    (Err (record { refusal = refusal_by NotNext 3; expected = record { date = 20250331; balance = pos 0 } })) (journal_of 4 (february ∷ []))
 unfolding content_of run verdict_of judgement_of held_among last_among lines_of sizes same_key same_bytes february_alone
 right_backwards =
     let g = february_alone 4 (omega arith) (omega arith) in
     let l : lines_in (journal_of 4 (february ∷ [])) ≡ 4 = lines_are g in
     let o : outcome_of (journal_of 4 (february ∷ [])) (form 1) backwards
-    ≡ refused_with (record { number = 22; «record» = 3; expected_date = 20250331; expected_balance = pos 0 }) =
+    ≡ refused_with (record { refusal = refusal_by NotNext 3; expected = record { date = 20250331; balance = pos 0 } }) =
     outcome_by_lem g (form 1) backwards ∙ rw (backwards_accepted, backwards_hold, l, two_differ, february_first, march_first) in
     delivers (rw o) (rw o)
 
 -- so one that says what the journal ends with, and is right in all else, does not meet the contract
 pub says_the_last_held : {j' : List ℕ} → Delivers (journal_of 4 (february ∷ [])) (form 1) backwards
-    (Refused (record { number = 22; «record» = 3; expected_date = 20250228; expected_balance = pos 0 })) j' → ⊥
+    (Err (record { refusal = refusal_by NotNext 3; expected = record { date = 20250228; balance = pos 0 } })) j' → ⊥
 says_the_last_held g = let z : ◌≡◌ {A = ℕ} 20250331 20250228 = ap (λ a. (paper_delivery a).expected_date) (one_deliver right_backwards g).0 in omega arith
 
 -- delivered is not refused
-done_refused : {s h : ℕ} {r : Refusal} → Done s h ≡ Refused r → ⊥
+done_refused : {s h : ℕ} {r : Rejection} → done s h ≡ Err r → ⊥
 done_refused e = let z : ◌≡◌ {A = ℕ} 0 1 = cc in omega arith
 
 module _ {O : List ℕ → List ℕ} {D : Deliver} (d : Demand3 O D) where
   -- any file on any journal just opened
-  module _ (j : List ℕ) (right : is_length (length j) ≡ true) (f : Form) (b : List ℕ) {x y : ℕ} (done : (D (O j) f b).answer ≡ Done x y) where
+  module _ (j : List ℕ) (right : is_length (length j) ≡ true) (f : Form) (b : List ℕ) {x y : ℕ} (yes : (D (O j) f b).answer ≡ done x y) where
     -- what must be held after it
     must_hold : Journal (D (O j) f b).journal (arrivals [] (statements_of (coding_of f) f b))
     unfolding after held_along
-    must_hold = rw done at (d.holds j right (deliver f b ∷ []))
+    must_hold = rw yes at (d.holds j right (deliver f b ∷ []))
 
     -- the journal is not as it was where the file has a statement
     pub not_unchanged : {s : Statement} {ss : List Statement} → statements_of (coding_of f) f b ≡ s ∷ ss → (D (O j) f b).journal ≡ O j → ⊥
@@ -173,21 +175,21 @@ module _ {O : List ℕ → List ℕ} {D : Deliver} (d : Demand3 O D) where
     pub not_refused : {n r : ℕ} → check_of (coding_of f) f b ≡ refused n r → ⊥
     unfolding after
     not_refused e =
-        let c = T.counts (d.reads j right [] f b x y done) in
+        let c = T.counts (d.reads j right [] f b x y yes) in
         let z : ◌≡◌ {A = ℕ} 0 1 = cc in
         omega arith
 
   -- one that does nothing and says that a file of one statement is delivered, with any counts
-  pub does_nothing : (s h : ℕ) → D (O room) (form 1) nil ≡ record { answer = Done s h; journal = O room } → ⊥
+  pub does_nothing : (s h : ℕ) → D (O room) (form 1) nil ≡ record { answer = done s h; journal = O room } → ⊥
   does_nothing s h e = not_unchanged room room_right (form 1) nil (ap (λ a. a.answer) e) nil_holds (ap (λ a. a.journal) e)
 
   -- one that stores only the first of two statements
-  pub only_the_first : (s h : ℕ) → D (O room) (form 1) two ≡ record { answer = Done s h; journal = journal_of 4 (february ∷ []) } → ⊥
+  pub only_the_first : (s h : ℕ) → D (O room) (form 1) two ≡ record { answer = done s h; journal = journal_of 4 (february ∷ []) } → ⊥
   only_the_first s h e =
       not_the_first room room_right (form 1) two (ap (λ a. a.answer) e) two_hold two_differ (rw e (february_alone 4 (omega arith) (omega arith)))
 
   -- one that cuts off the lines that are free, whatever it answers
-  pub cuts_the_room : (a : Delivery) → D (O room) (form 1) nil ≡ record { answer = a; journal = journal_of 2 (february ∷ []) } → ⊥
+  pub cuts_the_room : (a : Result Delivery Rejection) → D (O room) (form 1) nil ≡ record { answer = a; journal = journal_of 2 (february ∷ []) } → ⊥
   unfolding after
   cuts_the_room a e =
       let l = d.room room room_right (deliver (form 1) nil ∷ []) in
@@ -195,7 +197,7 @@ module _ {O : List ℕ → List ℕ} {D : Deliver} (d : Demand3 O D) where
       omega (arith, two_lines_long, room_long)
 
   -- one that makes up its two counts
-  pub made_up_counts : (s h : ℕ) → (Done s h ≡ Done 2 0 → ⊥) → (D (O room) (form 1) two).answer ≡ Done s h → ⊥
+  pub made_up_counts : (s h : ℕ) → (done s h ≡ done 2 0 → ⊥) → (D (O room) (form 1) two).answer ≡ done s h → ⊥
   unfolding after held_along arrivals held_among
   made_up_counts s h n e =
       let c = rw (two_hold, two_differ) at (d.counts room room_right [] (form 1) two s h e) in
@@ -204,11 +206,11 @@ module _ {O : List ℕ → List ℕ} {D : Deliver} (d : Demand3 O D) where
       n (rw (p, q))
 
   -- one that takes a 07 alone for a file: it holds no statement, so only `reads` tells
-  pub takes_nonsense : (s h : ℕ) → (D (O room) (form 0) lone).answer ≡ Done s h → ⊥
+  pub takes_nonsense : (s h : ℕ) → (D (O room) (form 0) lone).answer ≡ done s h → ⊥
   takes_nonsense s h e = not_refused room room_right (form 0) lone e lone_refused
 
   -- one that refuses a file when it comes again with CR LF
-  pub refuses_again : (s h : ℕ) (r : Refusal) → (D (O room) (form 1) nil).answer ≡ Done s h → (D (D (O room) (form 1) nil).journal (form 2) nil_crlf).answer ≡ Refused r → ⊥
+  pub refuses_again : (s h : ℕ) (r : Rejection) → (D (O room) (form 1) nil).answer ≡ done s h → (D (D (O room) (form 1) nil).journal (form 2) nil_crlf).answer ≡ Err r → ⊥
   unfolding after
   refuses_again s h r e g =
       let w = rw nil_relined at (d.again room room_right [] (form 1) nil s h e [] (form 2) refl) in

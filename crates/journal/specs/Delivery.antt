@@ -1,7 +1,10 @@
 -- A delivery: a file's statements in turn, on the statements held as the earlier ones leave them.
-use Rattle.std.specs.Prelude.{Bool, true, false, List, [], ◌∷◌, ◌++◌, ℕ, ◌+◌, ◌-◌, ◌/◌, leb, ltb, length, ℤ, pos}
+use Rattle.std.specs.Prelude.{Bool, true, false, List, [], ◌∷◌, ◌++◌, ℕ, ◌+◌, ◌-◌, ◌/◌, leb, ltb, length, ℤ, pos, Result, Ok, Err}
 use Rattle.zones.specs.Choice.{pick}
 use Rattle.framing.specs.declared.Form.{Form}
+use Rattle.framing.specs.Refusals.{refusal_of, refusal_by}
+use Rattle.framing.specs.declared.refusals.Refusal.{Refusal}
+use Rattle.framing.specs.declared.refusals.Reason.TheVariants.{UnsoundJournal, NotNext, FullContents, FullJournal}
 use Rattle.grammar.specs.Answer as G
 use Rattle.grammar.specs.Statements.{Statement}
 use Rattle.grammar.specs.Files.{statements_of, check_of}
@@ -13,13 +16,13 @@ use Rattle.journal_layout.specs.declared.Judgement.TheVariants.{Held, First, Aft
 use Rattle.journal_layout.specs.Chains.{judgement_of, follows_by}
 use Rattle.journal_layout.specs.Layout.{lines_of, journal_of}
 use Rattle.journal_layout.specs.Test.{sound_in, held_of}
-use Rattle.journal.specs.declared.Refusal.{Refusal}
+use Rattle.journal.specs.declared.Rejection.{Rejection}
 use Rattle.journal.specs.declared.Verdict.{Verdict}
-use Rattle.journal.specs.declared.Verdict.TheVariants.{Hold, Store, Refuse}
+use Rattle.journal.specs.declared.Verdict.TheVariants.{Hold, Store}
 
--- a refusal by its number and its record; nothing was expected
-abbrev pub refusal : (number at : ℕ) → Refusal
-refusal n r = record { number = n; «record» = r; expected_date = 0; expected_balance = pos 0 }
+-- a refusal with which nothing was expected
+abbrev pub rejection : Refusal → Rejection
+rejection r = record { refusal = r; expected = record { date = 0; balance = pos 0 } }
 
 abbrev pub is_held : Judgement → Bool
 is_held Held = true
@@ -38,31 +41,31 @@ last_balance First = pos 0
 last_balance (After d b) = b
 
 -- 22: a statement that does not follow, with what was expected of it. No other refusal says that.
-abbrev pub not_next : Judgement → (at : ℕ) → Refusal
-not_next j at = record { number = 22; «record» = at; expected_date = last_date j; expected_balance = last_balance j }
+abbrev pub not_next : Judgement → (at : ℕ) → Rejection
+not_next j at = record { refusal = refusal_by NotNext at; expected = record { date = last_date j; balance = last_balance j } }
 
 -- What becomes of a statement. A held one is held, also if the table is full. Otherwise it must follow, else 22. Then no entry left gives 23, too few lines left 24. A refusal reports the 01's record.
-abbrev pub verdict_by : Judgement → (date : ℕ) → (balance : ℤ) → (entries left size at : ℕ) → Verdict
+abbrev pub verdict_by : Judgement → (date : ℕ) → (balance : ℤ) → (entries left size at : ℕ) → Result Verdict Rejection
 verdict_by j d b entries left size at =
-    pick (is_held j) Hold
+    pick (is_held j) (Ok Hold)
     (pick (follows_by j d b)
-    (pick (ltb entries most_entries) (pick (leb size left) Store (Refuse (refusal 24 at))) (Refuse (refusal 23 at)))
-    (Refuse (not_next j at)))
+    (pick (ltb entries most_entries) (pick (leb size left) (Ok Store) (Err (rejection (refusal_by FullJournal at)))) (Err (rejection (refusal_by FullContents at))))
+    (Err (not_next j at)))
 
 -- a statement, whose 01 is record `at` of its file, beside those held in a journal of n lines
-unfoldable pub verdict_of : (n : ℕ) → List Statement → Statement → (at : ℕ) → Verdict
+unfoldable pub verdict_of : (n : ℕ) → List Statement → Statement → (at : ℕ) → Result Verdict Rejection
 verdict_of n hs s at = verdict_by (judgement_of s hs) s.old_date s.old_balance (length hs) (n - lines_of hs) (size_of s) at
 
 -- what a delivery comes to: the statements held then, and how many were stored and how many were held; or a refusal
 pub data Outcome : Type 0 where
   delivered : (list : List Statement) → (stored held : ℕ) → Outcome
-  refused : Refusal → Outcome
+  refused : Rejection → Outcome
 
 -- one of three, by a verdict
-abbrev pub proceed : {A : Type 0} → Verdict → (held stored : A) → (Refusal → A) → A
-proceed Hold a b c = a
-proceed Store a b c = b
-proceed (Refuse r) a b c = c r
+abbrev pub proceed : {A : Type 0} → Result Verdict Rejection → (held stored : A) → (Rejection → A) → A
+proceed (Ok Hold) a b c = a
+proceed (Ok Store) a b c = b
+proceed (Err r) a b c = c r
 
 -- so many records of the file are behind, so many statements stored and held
 unfoldable pub run : (n : ℕ) → List Statement → (behind stored held : ℕ) → List Statement → Outcome
@@ -80,12 +83,12 @@ lines_in j = (length j - table_size) / record_size
 -- the file's refusals, then its statements
 abbrev pub outcome_by : G.Answer → Outcome → Outcome
 outcome_by (G.accepted c) o = o
-outcome_by (G.refused n r) o = refused (refusal n r)
+outcome_by (G.refused n r) o = refused (rejection (refusal_of n r))
 
 -- THE DELIVERY: 21 first, then the file's refusals, then its statements in turn
 unfoldable pub outcome_of : List ℕ → Form → List ℕ → Outcome
 outcome_of j f b =
-    pick (sound_in j) (outcome_by (check_of (coding_of f) f b) (run (lines_in j) (held_of j) 0 0 0 (statements_of (coding_of f) f b))) (refused (refusal 21 0))
+    pick (sound_in j) (outcome_by (check_of (coding_of f) f b) (run (lines_in j) (held_of j) 0 0 0 (statements_of (coding_of f) f b))) (refused (rejection (refusal_by UnsoundJournal 0)))
 
 -- the journal's bytes after it: any refusal leaves the whole journal unchanged
 abbrev pub content_by : List ℕ → Outcome → List ℕ

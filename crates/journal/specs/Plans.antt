@@ -1,8 +1,11 @@
 -- What the code works on: the parts of a file that are to be stored, what they say of a statement, and how they are written into the journal.
-use Rattle.std.specs.Prelude.{◌≡◌, Bool, true, false, ◌||◌, List, [], ◌∷◌, ◌++◌, ℕ, zero, suc, ◌+◌, ◌-◌, ◌*◌, ◌/◌, ◌<◌, ◌≤◌, length, take, drop, get_or, replicate}
+use Rattle.std.specs.Prelude.{◌≡◌, Bool, true, false, ◌||◌, List, [], ◌∷◌, ◌++◌, ℕ, ◌+◌, ◌-◌, ◌*◌, ◌/◌, ◌<◌, ◌≤◌, length, take, drop, Result, Ok, Err}
+use Rattle.std.specs.declared.option.Option.{Option}
+use Rattle.std.specs.declared.option.Option.TheVariants.{Some, None}
 use Rattle.zones.specs.Choice.{pick}
 use Rattle.framing.specs.declared.Form.{Form}
-use Rattle.framing.specs.Files.{width_of}
+use Rattle.framing.specs.Files.{All, width_of}
+use Rattle.framing.specs.declared.refusals.Refusal.{Refusal}
 use Rattle.grammar.specs.Answer.{Counts, accepted}
 use Rattle.grammar.specs.Statements.{Statement}
 use Rattle.grammar.specs.Files.{Reads, statements_of, check_of}
@@ -14,27 +17,40 @@ use Rattle.journal_layout.specs.declared.Judgement.{Judgement}
 use Rattle.journal_layout.specs.declared.Judgement.TheVariants.{Held}
 use Rattle.journal_layout.specs.Layout.{lines_of, entry_of}
 use Rattle.journal_layout.specs.Test.{sound_in, held_of, later_of, judged_by}
-use Rattle.journal.specs.Delivery.{is_held, verdict_of, lines_in, content_of, outcome_of}
-use Rattle.journal.specs.declared.Delivery.TheVariants.{Done, Refused}
-use Rattle.journal.specs.declared.Refusal.{Refusal}
+use Rattle.journal.specs.Delivery.{is_held, verdict_of, delivered, refused, lines_in, content_of, outcome_of}
+use Rattle.journal.specs.declared.Rejection.{Rejection}
+use Rattle.journal.specs.declared.Delivery.{Delivery}
 use Rattle.journal.specs.declared.Verdict.{Verdict}
-use Rattle.journal_layout.specs.declared.Free.{Free}
+use Rattle.journal.specs.declared.Bounds.{Bounds}
+use Rattle.journal.specs.declared.Parts.{Parts}
 use Rattle.journal.specs.declared.Plan.{Plan}
-use Rattle.journal.specs.Answers.{answer_of}
 use Rattle.journal.specs.declared.Found.{Found}
 use Rattle.journal.specs.Newest.{Lies}
 use Rattle.journal.specs.Arrivals.{Span, span, arrivals, spans_of}
 
--- n parts of a file, from the p-th on: each between its two places
-unfoldable pub parts_from : (n p : ℕ) → (places ends b : List ℕ) → List (List ℕ)
-parts_from zero p places ends b = []
-parts_from (suc n) p places ends b =
-    take (get_or ends p 0 - get_or places p 0) (drop (get_or places p 0) b) ∷ parts_from n (p + 1) places ends b
+-- a part of a file, between its two places
+abbrev pub part_of : Bounds → List ℕ → List ℕ
+part_of x b = take (x.end - x.first) (drop x.first b)
 
--- the places of the first n lie in the file, in order
-pub record Inside (n : ℕ) (places ends b : List ℕ) : Type 0 where
-  pub rises : (p : ℕ) → p < n → get_or places p 0 ≤ get_or ends p 0
-  pub within : (p : ℕ) → p < n → get_or ends p 0 ≤ length b
+abbrev pub parts_of : List Bounds → List ℕ → List (List ℕ)
+parts_of [] b = []
+parts_of (x ∷ xs) b = part_of x b ∷ parts_of xs b
+
+-- as the code lends them
+abbrev pub parts_in : Parts → List (List ℕ)
+parts_in p = parts_of p.bounds.now p.file.now
+
+-- its places lie in the file, in order
+pub record Within (x : Bounds) (b : List ℕ) : Type 0 where
+  pub rises : x.first ≤ x.end
+  pub within : x.end ≤ length b
+
+abbrev pub Inside : List Bounds → List ℕ → Type 0
+Inside xs b = All (λ x. Within x b) xs
+
+-- no part
+abbrev pub nowhere : Bounds
+nowhere = record { first = 0; end = 0 }
 
 -- what the parts say of a statement, behind what was said before
 unfoldable pub held_in : Form → List (List ℕ) → List ℕ → Bool
@@ -85,74 +101,72 @@ pub record Deliverable (j : List ℕ) (f : Form) (b : List ℕ) : Type 0 where
   pub counts : Counts
   pub yes : check_of (coding_of f) f b ≡ accepted counts
 
--- the plan after the last statement
-abbrev pub done_plan : (count : ℕ) (places ends : List ℕ) → Free → (held : ℕ) → Plan
-done_plan count places ends free held =
-    record { count = count; places = places; ends = ends; entry = free.entry; line = free.line; answer = Done count held }
-
--- the plan of a refusal
-abbrev pub refused_plan : Refusal → Plan
-refused_plan r =
-    record { count = 0; places = replicate most_entries 0; ends = replicate most_entries 0; entry = 0; line = 0; answer = Refused r }
-
--- a turn of the dry run: the part of a file from `at` to `end` reads as one statement, and the parts planned so far leave so many lines behind those held
-pub record Judgeable (j : List ℕ) (f : Form) (b places ends : List ℕ) (held count left at end : ℕ) : Type 0 where
+-- a turn of the dry run: a part of a file reads as one statement, and the parts planned so far leave so many lines behind those held
+pub record Judgeable (j : List ℕ) (f : Form) (b : List ℕ) (xs : List Bounds) (held left : ℕ) (x : Bounds) : Type 0 where
   pub statement : Statement
   pub list : List Statement
   pub sound : sound_in j ≡ true
   pub entry : held ≡ length (held_of j)
-  pub few : held + count ≤ most_entries
-  pub named : (count ≤ length places) × (count ≤ length ends)
-  pub inside : Inside count places ends b
-  pub planned : Reading f (parts_from count 0 places ends b) list
+  pub few : held + length xs ≤ most_entries
+  pub inside : Inside xs b
+  pub planned : Reading f (parts_of xs b) list
   pub room : left ≡ lines_in j - lines_of (held_of j ++ list)
-  pub rises : at < end
-  pub within : end ≤ length b
-  pub reads : Reads (coding_of f) f (take (end - at) (drop at b)) (statement ∷ [])
+  pub within : Within x b
+  pub reads : Reads (coding_of f) f (part_of x b) (statement ∷ [])
 
 -- its answer: the verdict on that statement beside the held and the planned ones
-pub record Turned (j : List ℕ) (f : Form) (b places ends : List ℕ) (held count left at end : ℕ) (v : Verdict) : Type 0 where
-  pub verdict : (t : Judgeable j f b places ends held count left at end)
-      → v ≡ verdict_of (lines_in j) (held_of j ++ t.list) t.statement (at / width_of record_size f + 1)
+pub record Turned (j : List ℕ) (f : Form) (b : List ℕ) (xs : List Bounds) (held left : ℕ) (x : Bounds) (v : Result Verdict Rejection) : Type 0 where
+  pub verdict : (t : Judgeable j f b xs held left x)
+      → v ≡ verdict_of (lines_in j) (held_of j ++ t.list) t.statement (x.first / width_of record_size f + 1)
 
 -- parts that can be written from an entry and a line on
-pub record Storable (j : List ℕ) (f : Form) (b places ends : List ℕ) (count entry line : ℕ) : Type 0 where
+pub record Storable (j : List ℕ) (f : Form) (b : List ℕ) (xs : List Bounds) (entry line : ℕ) : Type 0 where
   pub list : List Statement
-  pub named : (count ≤ length places) × (count ≤ length ends)
-  pub inside : Inside count places ends b
-  pub reads : Reading f (parts_from count 0 places ends b) list
+  pub inside : Inside xs b
+  pub reads : Reading f (parts_of xs b) list
   pub room : Roomy entry line (length j) list
 
--- where the n parts from the p-th on stand
-unfoldable pub spans_from : (n p : ℕ) → (places ends : List ℕ) → List Span
-spans_from zero p places ends = []
-spans_from (suc n) p places ends = span (get_or places p 0) (get_or ends p 0 - get_or places p 0) ∷ spans_from n (p + 1) places ends
+-- where the parts stand
+abbrev pub spans_at : List Bounds → List Span
+spans_at [] = []
+spans_at (x ∷ xs) = span x.first (x.end - x.first) ∷ spans_at xs
 
--- of a delivery without a refusal: the parts are those of the statements that are new, in order of first arrival, behind those held
-pub record Arrived (j : List ℕ) (f : Form) (b : List ℕ) (r : Plan) (list : List Statement) : Type 0 where
-  pub new : list ≡ arrivals (held_of j) (statements_of (coding_of f) f b)
-  pub spans : spans_from r.count 0 r.places r.ends ≡ spans_of (width_of record_size f) (held_of j) 0 (statements_of (coding_of f) f b)
-  pub entry : r.entry ≡ length (held_of j)
+-- what a delivery by a plan answers
+abbrev pub delivery_of : Plan → Delivery
+delivery_of p = record { stored = p.count; held = p.held }
 
--- A plan: the statements to store, with room for them; and the delivery's answer. Written into the journal they are the delivery's content.
-pub record Planned (j : List ℕ) (f : Form) (b : List ℕ) (r : Plan) : Type 0 where
-  pub storable : Storable j f b r.places r.ends r.count r.entry r.line
-  pub answer : r.answer ≡ answer_of (outcome_of j f b)
-  pub content : written_all r.entry r.line storable.list j ≡ content_of j f b
-  pub arrived : (s h : ℕ) → r.answer ≡ Done s h → Arrived j f b r storable.list
+-- A plan: the statements to store, with room for them. They are those that are new, in order of first arrival, behind those held; written into the journal they are the delivery's content.
+pub record Plans (j : List ℕ) (f : Form) (b : List ℕ) (p : Plan) : Type 0 where
+  pub few : p.count ≤ length p.bounds
+  pub storable : Storable j f b (take p.count p.bounds) p.entry p.line
+  pub outcome : outcome_of j f b ≡ delivered (held_of j ++ storable.list) p.count p.held
+  pub content : written_all p.entry p.line storable.list j ≡ content_of j f b
+  pub sound : sound_in j ≡ true
+  pub new : storable.list ≡ arrivals (held_of j) (statements_of (coding_of f) f b)
+  pub spans : spans_at (take p.count p.bounds) ≡ spans_of (width_of record_size f) (held_of j) 0 (statements_of (coding_of f) f b)
+  pub entry : p.entry ≡ length (held_of j)
+
+-- or the delivery is refused
+abbrev pub Planned : List ℕ → Form → List ℕ → Result Plan Rejection → Type 0
+Planned j f b (Ok p) = Plans j f b p
+Planned j f b (Err r) = outcome_of j f b ≡ refused r
 
 -- the parts and the entries that hold every statement after a delivery without a refusal
-pub record Searchable (j : List ℕ) (f : Form) (b places ends : List ℕ) (count held : ℕ) : Type 0 where
+pub record Searchable (j : List ℕ) (f : Form) (b : List ℕ) (xs : List Bounds) (held : ℕ) : Type 0 where
   pub list : List Statement
   pub sound : sound_in j ≡ true
   pub entry : held ≡ length (held_of j)
-  pub named : (count ≤ length places) × (count ≤ length ends)
-  pub inside : Inside count places ends b
-  pub reads : Reading f (parts_from count 0 places ends b) list
+  pub inside : Inside xs b
+  pub reads : Reading f (parts_of xs b) list
   pub new : list ≡ arrivals (held_of j) (statements_of (coding_of f) f b)
-  pub spans : spans_from count 0 places ends ≡ spans_of (width_of record_size f) (held_of j) 0 (statements_of (coding_of f) f b)
+  pub spans : spans_at xs ≡ spans_of (width_of record_size f) (held_of j) 0 (statements_of (coding_of f) f b)
+
+-- a number from 1, by an index from 0; 0 where there is none
+abbrev pub number_of : Option ℕ → ℕ
+number_of None = 0
+number_of (Some i) = i + 1
 
 -- what was found, and that it lies there
-pub record Finds (answer : Found) (j b : List ℕ) (r : Found) : Type 0 where
+pub record Finds (answer : Result Found Refusal) (j b : List ℕ) (r : Result Found Refusal) : Type 0 where
   pub same : r ≡ answer
   pub lies : Lies r (length j) (length b)

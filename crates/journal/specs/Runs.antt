@@ -1,5 +1,5 @@
 -- RUNS OF DELIVERIES, each named as one account's, and what an account has of a run.
-use Rattle.std.specs.Prelude.{◌≡◌, List, [], ◌∷◌, ℕ}
+use Rattle.std.specs.Prelude.{◌≡◌, List, [], ◌∷◌, ℕ, Result}
 use Rattle.zones.specs.Choice.{pick}
 use Rattle.framing.specs.declared.Form.{Form}
 use Rattle.framing.specs.Files.{All}
@@ -9,6 +9,7 @@ use Rattle.grammar.specs.Statements.{Statement}
 use Rattle.grammar.specs.Files.{Reads}
 use Rattle.records.specs.July.{coding_of}
 use Rattle.journal.specs.declared.Delivery.{Delivery}
+use Rattle.journal.specs.declared.Rejection.{Rejection}
 use Rattle.journal.specs.Answers.{paper_delivery}
 use Rattle.journal.specs.Series.{Event, deliver, Deliver}
 
@@ -41,17 +42,17 @@ for_account k (s ∷ run) = pick (same_key s.name k) (s ∷ for_account k run) (
 
 module _ (D : Deliver) where
   -- the answers to a run in order, and those to the deliveries that are named as the account k's
-  unfoldable pub answers_of : List ℕ → List Sent → List Delivery
+  unfoldable pub answers_of : List ℕ → List Sent → List (Result Delivery Rejection)
   answers_of j [] = []
   answers_of j (s ∷ run) = (D j s.form s.file).answer ∷ answers_of (D j s.form s.file).journal run
 
-  unfoldable pub answers_for : Key → List ℕ → List Sent → List Delivery
+  unfoldable pub answers_for : Key → List ℕ → List Sent → List (Result Delivery Rejection)
   answers_for k j [] = []
   answers_for k j (s ∷ run) =
       pick (same_key s.name k) ((D j s.form s.file).answer ∷ answers_for k (D j s.form s.file).journal run)
       (answers_for k (D j s.form s.file).journal run)
 
 -- an answer that is neither 23 nor 24
-pub record HadRoom (a : Delivery) : Type 0 where
+pub record HadRoom (a : Result Delivery Rejection) : Type 0 where
   pub not_23 : (paper_delivery a).number ≡ 23 → ⊥
   pub not_24 : (paper_delivery a).number ≡ 24 → ⊥

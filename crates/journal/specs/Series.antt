@@ -1,5 +1,5 @@
 -- DEMAND 3, over any two functions that open a journal and deliver to it: after any series of deliveries, with any bytes.
-use Rattle.std.specs.Prelude.{◌≡◌, true, false, List, [], ◌∷◌, ◌++◌, ℕ, ◌+◌, length}
+use Rattle.std.specs.Prelude.{◌≡◌, true, false, List, [], ◌∷◌, ◌++◌, ℕ, ◌+◌, length, Result, Ok, Err}
 use Rattle.framing.specs.declared.Form.{Form}
 use Rattle.framing.specs.Files.{unknown_end}
 use Rattle.grammar.specs.declared.Key.{Key}
@@ -9,7 +9,8 @@ use Rattle.records.specs.July.{coding_of}
 use Rattle.journal_layout.specs.Chains.{Chained, of_account, Distinct}
 use Rattle.journal_layout.specs.Layout.{is_length, Journal}
 use Rattle.journal.specs.declared.Delivery.{Delivery}
-use Rattle.journal.specs.declared.Delivery.TheVariants.{Done, Refused}
+use Rattle.journal.specs.declared.Rejection.{Rejection}
+use Rattle.journal.specs.Answers.{done}
 use Rattle.journal.specs.Arrivals.{arrivals, Summed}
 
 -- what happens to a journal: a file is delivered, of any form and with any bytes
@@ -18,7 +19,7 @@ pub data Event : Type 0 where
 
 -- the answer to a file and the journal after it
 pub record After : Type 0 where
-  pub answer : Delivery
+  pub answer : Result Delivery Rejection
   pub journal : List ℕ
 
 -- a delivery answers for any journal, form and file
@@ -26,9 +27,9 @@ abbrev pub Deliver : Type 0
 Deliver = List ℕ → Form → List ℕ → After
 
 -- the statements of a file delivered without a refusal
-abbrev pub accepted_by : Delivery → List Statement → List Statement
-accepted_by (Done s h) ss = ss
-accepted_by (Refused r) ss = []
+abbrev pub accepted_by : Result Delivery Rejection → List Statement → List Statement
+accepted_by (Ok d) ss = ss
+accepted_by (Err r) ss = []
 
 module _ (D : Deliver) where
   -- the journal after one event
@@ -60,7 +61,7 @@ module _ (D : Deliver) where
 
 -- a file of the statements ss is answered as wholly held and changes nothing
 abbrev pub WhollyHeld : Deliver → (j : List ℕ) → Form → (b : List ℕ) → List Statement → Type 0
-WhollyHeld D j f b ss = D j f b ≡ record { answer = Done 0 (length ss); journal = j }
+WhollyHeld D j f b ss = D j f b ≡ record { answer = done 0 (length ss); journal = j }
 
 pub record Demand3 (O : List ℕ → List ℕ) (D : Deliver) : Type 0 where
   -- it holds the statements of the accepted files, in order of first arrival
@@ -75,18 +76,18 @@ pub record Demand3 (O : List ℕ → List ℕ) (D : Deliver) : Type 0 where
   pub summed : (j : List ℕ) → is_length (length j) ≡ true → (es : List Event) (k : Key) → Summed (of_account k (held_after D (O j) es))
   -- what is answered without a refusal is a file of statements
   pub reads : (j : List ℕ) → is_length (length j) ≡ true → (es : List Event) (f : Form) (b : List ℕ) (s h : ℕ)
-      → (D (after D (O j) es) f b).answer ≡ Done s h → Reads (coding_of f) f b (statements_of (coding_of f) f b)
+      → (D (after D (O j) es) f b).answer ≡ done s h → Reads (coding_of f) f b (statements_of (coding_of f) f b)
   -- the answer is how many of the file's statements were stored and how many were held
   pub counts : (j : List ℕ) → is_length (length j) ≡ true → (es : List Event) (f : Form) (b : List ℕ) (s h : ℕ)
-      → (D (after D (O j) es) f b).answer ≡ Done s h
+      → (D (after D (O j) es) f b).answer ≡ done s h
       → (s ≡ length (arrivals (held_after D (O j) es) (statements_of (coding_of f) f b))) × (s + h ≡ length (statements_of (coding_of f) f b))
   -- such a file, sent again at any later time with any of the three line ends, is answered as wholly held and changes nothing
   pub again : (j : List ℕ) → is_length (length j) ≡ true → (es : List Event) (f : Form) (b : List ℕ) (s h : ℕ)
-      → (D (after D (O j) es) f b).answer ≡ Done s h
+      → (D (after D (O j) es) f b).answer ≡ done s h
       → (later : List Event) (g : Form) → unknown_end g ≡ false
       → WhollyHeld D (after D (O j) (es ++ (deliver f b ∷ later))) g (relined (coding_of f) f g b) (statements_of (coding_of f) f b)
   -- and so is any file of the same statements: its zeros may have the other sign
   pub alike : (j : List ℕ) → is_length (length j) ≡ true → (es : List Event) (f : Form) (b : List ℕ) (s h : ℕ)
-      → (D (after D (O j) es) f b).answer ≡ Done s h
+      → (D (after D (O j) es) f b).answer ≡ done s h
       → (later : List Event) (g : Form) (c : List ℕ) → Reads (coding_of g) g c (statements_of (coding_of f) f b)
       → WhollyHeld D (after D (O j) (es ++ (deliver f b ∷ later))) g c (statements_of (coding_of f) f b)

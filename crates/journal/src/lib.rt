@@ -1,53 +1,81 @@
 // The journal: a file delivered to it, the newest statement of an account, and what the crates above read of it. A dry run judges every statement and plans what to store; only a plan without a refusal is written.
 #![tactic(auto)]
 
-ghost use Rattle.std.specs.Prelude.{◌≡◌, ◌+◌, ◌*◌, ◌<◌, ◌≤◌, eqb, length, List, ◌∷◌, []};
+ghost use Rattle.std.specs.Prelude.{◌≡◌, ◌+◌, ◌*◌, ◌<◌, ◌≤◌, eqb, length, List, ◌∷◌, [], Err};
 ghost use Rattle.zones.specs.Choice.{pick};
 ghost use Rattle.framing.specs.Files.{line_end};
+ghost use Rattle.framing.specs.Refusals.{refusal_by};
+ghost use Rattle.framing.specs.declared.refusals.Reason.TheVariants.{NoSuchEntry};
 ghost use Rattle.grammar.specs.Statements.{Statement};
 ghost use Rattle.grammar.specs.Files.{Reads, statements_of};
 ghost use Rattle.grammar.specs.Parts.{size_of};
 ghost use Rattle.records.specs.July.{coding_of};
 ghost use Rattle.records.specs.Looks.{look_of};
 ghost use Rattle.entries.specs.Entries.{most_entries, line_at};
-ghost use Rattle.journal.specs.Delivery.{refusal, not_next, is_held, verdict_by};
+ghost use Rattle.journal.specs.Delivery.{rejection, not_next, is_held, verdict_by};
 ghost use Rattle.journal_layout.specs.Test.{held_of};
-ghost use Rattle.journal.specs.declared.Found.TheVariants.{Refused};
 ghost use Rattle.journal.specs.Newest.{key_size, key_from, newest_among, newest_of, is_account, last_held_from, last_part};
-ghost use Rattle.journal.specs.Plans.{parts_from, Inside, judged_in, judged_all, Reading, written, written_all, Deliverable, done_plan, refused_plan, Storable, Planned, Judgeable, Turned, Searchable, Finds};
+ghost use Rattle.journal.specs.Plans.{part_of, parts_in, Within, Inside, judged_in, judged_all, Reading, written, written_all, Deliverable, Storable, delivery_of, Planned, Judgeable, Turned, Searchable, number_of, Finds};
 ghost use Rattle.journal.specs.Answers.{Delivers, Foretells, NewestPlace, NewestPart, Holds, BodyOf, OfAccount};
 
 use entries::{CONTENTS, ENTRY, MOST_ENTRIES};
-use framing::Form;
-use journal_layout::{Free, Judgement, Usage};
+use framing::{Form, Reason, Refusal};
+use journal_layout::Judgement;
 use records::RECORD;
-use statements::Checked;
 
 // The bytes of an account key: bank, branch, currency, decimals, account.
 pub const KEY: usize = 25;
 
-// Why a delivery is refused, and at which record. With 22 what was expected: the new date and the new balance of the account's last statement; else both are 0.
+// How a statement ends: its new date and its new balance.
 #[derive(Clone, Copy)]
-pub struct Refusal {
-    pub number: u64,
-    pub record: u64,
-    pub expected_date: u32,
-    pub expected_balance: i64,
+pub struct Ending {
+    pub date: u32,
+    pub balance: i64,
 }
 
-// How many statements were stored, and how many were held; or why it is refused.
+// Why a delivery is refused, and with `NotNext` what was expected: how the account's last statement ends. With any other reason both numbers are 0, as in the paper's record. An `Option` would tell answers of one record apart, and `deliver_recorded` says of every answer that the record is all of it.
 #[derive(Clone, Copy)]
-pub enum Delivery {
-    Done { stored: u64, held: u64 },
-    Refused(Refusal),
+pub struct Rejection {
+    pub refusal: Refusal,
+    pub expected: Ending,
 }
 
-// What becomes of a statement: it is held, or to be stored, or the delivery is refused for it.
+impl From<Refusal> for Rejection {
+    ghost from_gives = { λ refusal r. r ≡ rejection refusal };
+
+    // Nothing was expected.
+    fn from(refusal: Refusal) -> Rejection {
+        Rejection {
+            refusal,
+            expected: Ending {
+                date: 0,
+                balance: 0,
+            },
+        }
+    }
+}
+
+impl From<Rejection> for Refusal {
+    ghost from_gives = { λ rejection r. r ≡ rejection.refusal };
+
+    // Without what was expected.
+    fn from(rejection: Rejection) -> Refusal {
+        rejection.refusal
+    }
+}
+
+// How many statements of a file were stored, and how many were held.
+#[derive(Clone, Copy)]
+pub struct Delivery {
+    pub stored: u64,
+    pub held: u64,
+}
+
+// What becomes of a statement that is not refused: it is held, or to be stored.
 #[derive(Clone, Copy)]
 pub enum Verdict {
     Hold,
     Store,
-    Refuse(Refusal),
 }
 
 // Where the newest statement of an account stands: in the journal, without line ends, or in the file, with its line-end number.
@@ -62,54 +90,69 @@ pub enum Found {
         len: usize,
         line_end: u64,
     },
-    Refused {
-        number: u64,
-        record: u64,
-    },
 }
 
-// How many statements a sound journal holds; or a refusal's number and record.
+// Where a statement stands in its file: its first byte, and the one behind it.
 #[derive(Clone, Copy)]
-pub enum Holding {
-    Statements { count: u64 },
-    Refused { number: u64, record: u64 },
+pub struct Bounds {
+    pub first: u32,
+    pub end: u32,
 }
 
-// The statements of a file that a delivery stores: where each begins and ends, and into which entry and from which line on. With its answer.
+impl Bounds {
+    // The statement's bytes.
+    fn bytes(self, file: &[u8]) -> &[u8]
+        requires { Within self file.now }
+        ensures { result.now ≡ part_of self file.now }
+    {
+        let first = self.first as usize;
+        let end = self.end as usize;
+        &file[first..end]
+    }
+}
+
+// Some statements of a file.
+#[derive(Clone, Copy)]
+struct Parts<'a> {
+    form: Form,
+    file: &'a [u8],
+    bounds: &'a [Bounds],
+}
+
+// The statements of a file that a delivery stores, into entries and lines from these on, and how many are held already. Memory is fixed, so the first `count` of an array are the statements.
 #[derive(Clone, Copy)]
 pub struct Plan {
     pub count: usize,
-    pub places: [u32; MOST_ENTRIES],
-    pub ends: [u32; MOST_ENTRIES],
+    pub bounds: [Bounds; MOST_ENTRIES],
     pub entry: usize,
     pub line: usize,
-    pub answer: Delivery,
+    pub held: u64,
 }
 
-// What the planned statements, so many, say of another one, behind what the held ones say.
-fn judged_planned(
-    last: Judgement,
-    form: Form,
-    file: &[u8],
-    places: &[u32],
-    ends: &[u32],
-    count: usize,
-    s: &[u8],
-) -> Judgement
-    requires { (count ≤ length places.now) × (count ≤ length ends.now) × Inside count places.now ends.now file.now }
-    ensures { result ≡ judged_in last form (parts_from count 0 places.now ends.now file.now) s.now }
+impl Plan {
+    // What the delivery answers.
+    fn delivery(&self) -> Delivery
+        ensures { result ≡ delivery_of self.now }
+    {
+        Delivery {
+            stored: self.count as u64,
+            held: self.held,
+        }
+    }
+}
+
+// What the planned statements say of another one, behind what the held ones say. Beside `journal_layout::judged` a loop of its own: one over an iterator of bodies would need the iterator's items in its contract and a chain at each caller, for a loop of four lines.
+fn judged_planned(last: Judgement, parts: Parts, s: &[u8]) -> Judgement
+    requires { Inside parts.bounds.now parts.file.now }
+    ensures { result ≡ judged_in last parts.entry.form (parts_in parts.entry) s.now }
 {
     let mut after = last;
-    let mut p: usize = 0;
-    while p < count {
-        let a = places[p] as usize;
-        let z = ends[p] as usize;
-        let h = &file[a..z];
-        if bodies::same_records(form, h, form, s) {
+    for part in parts.bounds {
+        let h = part.bytes(parts.file);
+        if bodies::same_records(parts.form, h, parts.form, s) {
             return Judgement::Held;
         }
-        after = journal_layout::later(after, form, h, s);
-        p += 1;
+        after = journal_layout::later(after, parts.form, h, s);
     }
     after
 }
@@ -117,62 +160,33 @@ fn judged_planned(
 fn is_held(judgement: Judgement) -> bool
     ensures { result ≡ is_held judgement }
 {
-    match judgement {
-        Judgement::Held => true,
-        Judgement::First => false,
-        Judgement::After {
-            date: _,
-            balance: _,
-        } => false,
-    }
+    matches!(judgement, Judgement::Held)
 }
 
 // What the held statements, so many, and the planned ones say of another one.
-fn judged_all(
-    journal: &[u8],
-    held: usize,
-    form: Form,
-    file: &[u8],
-    places: &[u32],
-    ends: &[u32],
-    count: usize,
-    s: &[u8],
-) -> Judgement
-    requires { (count ≤ length places.now) × (count ≤ length ends.now) × Inside count places.now ends.now file.now }
-    ensures { result ≡ judged_all journal.now held form (parts_from count 0 places.now ends.now file.now) s.now }
+fn judged_all(journal: &[u8], held: usize, parts: Parts, s: &[u8]) -> Judgement
+    requires { Inside parts.bounds.now parts.file.now }
+    ensures { result ≡ judged_all journal.now held parts.entry.form (parts_in parts.entry) s.now }
 {
-    let last = journal_layout::judged(journal, held, form, s);
+    let last = journal_layout::judged(journal, held, parts.form, s);
     if is_held(last) {
         return Judgement::Held;
     }
-    judged_planned(last, form, file, places, ends, count, s)
+    judged_planned(last, parts, s)
 }
 
-// A refusal by its number and its record; nothing was expected.
-fn refusal_at(number: u64, record: u64) -> Refusal
-    ensures { result ≡ refusal number «record» }
-{
-    Refusal {
-        number,
-        record,
-        expected_date: 0,
-        expected_balance: 0,
-    }
-}
-
-// 22, with what was expected: what the others say of the account's last statement.
-fn not_next(judgement: Judgement, record: u64) -> Refusal
+// The statement does not follow. What was expected is what the others say of the account's last one.
+fn not_next(judgement: Judgement, record: u64) -> Rejection
     ensures { result ≡ not_next judgement «record» }
 {
+    let refusal = Reason::NotNext.at(record);
     match judgement {
-        Judgement::Held => refusal_at(22, record),
-        Judgement::First => refusal_at(22, record),
+        Judgement::Held => Rejection::from(refusal),
+        Judgement::First => Rejection::from(refusal),
         Judgement::After { date, balance } => {
-            Refusal {
-                number: 22,
-                record,
-                expected_date: date,
-                expected_balance: balance,
+            Rejection {
+                refusal,
+                expected: Ending { date, balance },
             }
         }
     }
@@ -186,131 +200,90 @@ fn verdict_by(
     left: usize,
     size: usize,
     record: u64,
-) -> Verdict
+) -> Result<Verdict, Rejection>
     ensures { result ≡ verdict_by judgement (look_of opening.now).day (look_of opening.now).amount entries left size «record» }
 {
     if is_held(judgement) {
-        return Verdict::Hold;
+        return Ok(Verdict::Hold);
     }
     let old = records::look_at(opening);
     if !journal_layout::follows(judgement, old.day, old.amount) {
-        return Verdict::Refuse(not_next(judgement, record));
+        return Err(not_next(judgement, record));
     }
     if MOST_ENTRIES <= entries {
-        return Verdict::Refuse(refusal_at(23, record));
+        return Err(Rejection::from(Reason::FullContents.at(record)));
     }
     if left < size {
-        return Verdict::Refuse(refusal_at(24, record));
+        return Err(Rejection::from(Reason::FullJournal.at(record)));
     }
-    Verdict::Store
+    Ok(Verdict::Store)
 }
 
-// What becomes of the statement that stands in the file from a place to its end, beside the held ones, so many, and the planned ones, which leave so many lines.
+// What becomes of a statement of the file, beside the held ones, so many, and the planned ones, which leave so many lines.
 fn turn(
     journal: &[u8],
     held: usize,
-    form: Form,
-    file: &[u8],
-    places: &[u32],
-    ends: &[u32],
-    count: usize,
+    parts: Parts,
     left: usize,
-    at: usize,
-    end: usize,
-) -> Verdict
-    requires { Judgeable journal.now form file.now places.now ends.now held count left at end }
-    ensures { Turned journal.now form file.now places.now ends.now held count left at end result }
+    part: Bounds,
+) -> Result<Verdict, Rejection>
+    requires { Judgeable journal.now parts.form parts.file.now parts.bounds.now held left part }
+    ensures { Turned journal.now parts.entry.form parts.entry.file.now parts.entry.bounds.now held left part result }
 {
-    let width = RECORD + form.line_end as usize;
-    let s = &file[at..end];
-    let judgement = judged_all(journal, held, form, file, places, ends, count, s);
+    let width = RECORD + parts.form.line_end as usize;
+    let s = part.bytes(parts.file);
+    let judgement = judged_all(journal, held, parts, s);
     verdict_by(
         judgement,
         contents::record_at(s, 0),
-        held + count,
+        held + parts.bounds.len(),
         left,
         s.len() / width,
-        (at / width + 1) as u64,
+        (part.first as usize / width + 1) as u64,
     )
 }
 
-// The plan of a refusal stores nothing.
-fn refused_plan(refusal: Refusal) -> Plan
-    ensures { result ≡ refused_plan refusal }
-{
-    Plan {
-        count: 0,
-        places: [0u32; MOST_ENTRIES],
-        ends: [0u32; MOST_ENTRIES],
-        entry: 0,
-        line: 0,
-        answer: Delivery::Refused(refusal),
-    }
-}
-
-// The plan after the last statement.
-fn done_plan(
-    count: usize,
-    places: [u32; MOST_ENTRIES],
-    ends: [u32; MOST_ENTRIES],
-    free: Free,
-    held: u64,
-) -> Plan
-    ensures { result ≡ done_plan count places ends free held }
-{
-    Plan {
-        count,
-        places,
-        ends,
-        entry: free.entry,
-        line: free.line,
-        answer: Delivery::Done {
-            stored: count as u64,
-            held,
-        },
-    }
-}
-
-// The statements of an accepted file in turn, on what a sound journal holds and what is planned so far.
-fn dry_run(journal: &[u8], form: Form, file: &[u8]) -> Plan
+// The statements of an accepted file in turn, on what a sound journal holds and what is planned so far. A `while`: an iterator of the parts would need a type with ghost members and laws, for the one line that moves on.
+fn dry_run(journal: &[u8], form: Form, file: &[u8]) -> Result<Plan, Rejection>
     requires { Deliverable journal.now form file.now }
     ensures { Planned journal.now form file.now result }
 {
     let free = journal_layout::first_free(journal);
     let lines = (journal.len() - CONTENTS) / RECORD;
     let width = RECORD + form.line_end as usize;
-    let mut places = [0u32; MOST_ENTRIES];
-    let mut ends = [0u32; MOST_ENTRIES];
+    let mut bounds = [Bounds { first: 0, end: 0 }; MOST_ENTRIES];
     let mut count: usize = 0;
     let mut taken = free.line;
     let mut held: u64 = 0;
     let mut at: usize = 0;
     while at < file.len() {
         let end = readers::statement_end(form, file, at);
-        match turn(
-            journal,
-            free.entry,
+        let part = Bounds {
+            first: at as u32,
+            end: end as u32,
+        };
+        let parts = Parts {
             form,
             file,
-            &places,
-            &ends,
-            count,
-            lines - taken,
-            at,
-            end,
-        ) {
+            bounds: &bounds[..count],
+        };
+        match turn(journal, free.entry, parts, lines - taken, part)? {
             Verdict::Hold => held += 1,
             Verdict::Store => {
-                places[count] = at as u32;
-                ends[count] = end as u32;
+                bounds[count] = part;
                 count += 1;
                 taken += (end - at) / width;
             }
-            Verdict::Refuse(refusal) => return refused_plan(refusal),
         }
         at = end;
     }
-    done_plan(count, places, ends, free, held)
+    Ok(Plan {
+        count,
+        bounds,
+        entry: free.entry,
+        line: free.line,
+        held,
+    })
 }
 
 // One statement into an entry and the lines from a line on. Its number of records.
@@ -330,70 +303,51 @@ fn store(journal: &mut [u8], e: usize, line: usize, form: Form, part: &[u8]) -> 
     size
 }
 
-// The planned parts of a file, so many, into the entries and lines from these on.
-fn store_all(
-    journal: &mut [u8],
-    form: Form,
-    file: &[u8],
-    places: &[u32],
-    ends: &[u32],
-    count: usize,
-    entry: usize,
-    line: usize,
-)
-    requires { Storable journal.old form file.now places.now ends.now count entry line }
-    ensures { (ss : List Statement) → Reading form (parts_from count 0 places.now ends.now file.now) ss → journal.new ≡ written_all entry line ss journal.old }
+// The planned parts of a file, into the entries and lines from these on.
+fn store_all(journal: &mut [u8], parts: Parts, entry: usize, line: usize)
+    requires { Storable journal.old parts.form parts.file.now parts.bounds.now entry line }
+    ensures { (ss : List Statement) → Reading parts.entry.form (parts_in parts.entry) ss → journal.new ≡ written_all entry line ss journal.old }
 {
     let mut k = line;
-    let mut p: usize = 0;
-    while p < count {
-        let a = places[p] as usize;
-        let z = ends[p] as usize;
-        let n = store(journal, entry + p, k, form, &file[a..z]);
-        k += n;
-        p += 1;
+    for (p, part) in parts.bounds.iter().enumerate() {
+        k += store(journal, entry + p, k, parts.form, part.bytes(parts.file));
     }
 }
 
 // Every refusal, or the plan of what to store.
-fn planned(journal: &[u8], form: Form, file: &[u8]) -> Plan
+fn planned(journal: &[u8], form: Form, file: &[u8]) -> Result<Plan, Rejection>
     ensures { Planned journal.now form file.now result }
 {
     if !journal_layout::sound(journal) {
-        return refused_plan(refusal_at(21, 0));
+        return Err(Rejection::from(Reason::UnsoundJournal.at(0)));
     }
-    match statements::check(form, file) {
-        Checked::Accepted {
-            statements: _,
-            movements: _,
-            complements: _,
-        } => dry_run(journal, form, file),
-        Checked::Refused { number, record } => refused_plan(refusal_at(number, record)),
-    }
+    statements::check(form, file)?;
+    dry_run(journal, form, file)
 }
 
 // A file delivered: its statements are stored, each once, or the whole file is refused and the journal unchanged.
-pub fn deliver(journal: &mut [u8], form: Form, file: &[u8]) -> Delivery
+pub fn deliver(journal: &mut [u8], form: Form, file: &[u8]) -> Result<Delivery, Rejection>
     ensures { Delivers journal.old form file.now result journal.new }
 {
-    let plan = planned(journal, form, file);
-    let places = plan.places;
-    let ends = plan.ends;
-    store_all(
-        journal, form, file, &places, &ends, plan.count, plan.entry, plan.line,
-    );
-    plan.answer
+    let plan = planned(journal, form, file)?;
+    let parts = Parts {
+        form,
+        file,
+        bounds: &plan.bounds[..plan.count],
+    };
+    store_all(journal, parts, plan.entry, plan.line);
+    Ok(plan.delivery())
 }
 
 // What a delivery of the file now would answer. The journal stays as it is.
-pub fn foretold(journal: &[u8], form: Form, file: &[u8]) -> Delivery
+pub fn foretold(journal: &[u8], form: Form, file: &[u8]) -> Result<Delivery, Rejection>
     ensures { Foretells journal.now form file.now result }
 {
-    let plan = planned(journal, form, file);
-    plan.answer
+    let plan = planned(journal, form, file)?;
+    Ok(plan.delivery())
 }
 
-// Whether a record's account is the one that a key names.
+// Whether a record's account is the one that a key names. A key's fields stand elsewhere than a record's, so `records::same_key` cannot compare the two.
 fn is_account(key: &[u8], opening: &[u8]) -> bool
     requires { length key.now ≡ key_size }
     ensures { result ≡ is_account key.now opening.now }
@@ -407,121 +361,84 @@ fn is_account(key: &[u8], opening: &[u8]) -> bool
                 & ((opening[19] == key[13]) & zones::same(&opening[21..32], &key[14..25]))))
 }
 
-// One of two places. A loop keeps the last that passed by it, with no branch of its own.
-fn chosen(yes: bool, a: usize, b: usize) -> usize
-    ensures { result ≡ pick yes a b }
-{
-    if yes { a } else { b }
-}
-
-// The number of the last entry of an account among so many, from 1; 0 where there is none.
-fn last_held(journal: &[u8], count: usize, key: &[u8]) -> usize
+// The last entry of an account among so many, from 0.
+fn last_held(journal: &[u8], count: usize, key: &[u8]) -> Option<usize>
     requires { length key.now ≡ key_size }
-    ensures { result ≡ last_held_from count 0 0 journal.now key.now }
+    ensures { number_of result ≡ last_held_from count 0 0 journal.now key.now }
 {
-    let mut last: usize = 0;
-    let mut e: usize = 0;
-    while e < count {
-        let h = entries::body_at(journal, e);
-        last = chosen(is_account(key, contents::record_at(h, 0)), e + 1, last);
-        e += 1;
+    let mut last = None;
+    for e in 0..count {
+        if is_account(key, contents::record_at(entries::body_at(journal, e), 0)) {
+            last = Some(e);
+        }
     }
     last
 }
 
-// The number of the last planned statement of an account, from 1; 0 where there is none.
-fn last_planned(file: &[u8], places: &[u32], ends: &[u32], count: usize, key: &[u8]) -> usize
-    requires { (length key.now ≡ key_size) × (count ≤ length places.now) × (count ≤ length ends.now) × Inside count places.now ends.now file.now }
-    ensures { result ≡ last_part 0 0 (parts_from count 0 places.now ends.now file.now) key.now }
+// The last planned statement of an account, from 0. Beside `last_held` a loop of its own, for the reason that `judged_planned` has.
+fn last_planned(parts: Parts, key: &[u8]) -> Option<usize>
+    requires { (length key.now ≡ key_size) × Inside parts.bounds.now parts.file.now }
+    ensures { number_of result ≡ last_part 0 0 (parts_in parts.entry) key.now }
 {
-    let mut last: usize = 0;
-    let mut p: usize = 0;
-    while p < count {
-        let a = places[p] as usize;
-        let z = ends[p] as usize;
-        last = chosen(
-            is_account(key, contents::record_at(&file[a..z], 0)),
-            p + 1,
-            last,
-        );
-        p += 1;
+    let mut last = None;
+    for (p, part) in parts.bounds.iter().enumerate() {
+        if is_account(key, contents::record_at(part.bytes(parts.file), 0)) {
+            last = Some(p);
+        }
     }
     last
 }
 
-// 25: the account has no statement, or the key is none.
-fn none_found() -> Found
-    ensures { result ≡ Refused 25 0 }
+// The account has no statement, or the key is none.
+fn none_found() -> Refusal
+    ensures { result ≡ refusal_by NoSuchEntry 0 }
 {
-    Found::Refused {
-        number: 25,
-        record: 0,
-    }
+    Reason::NoSuchEntry.at(0)
 }
 
 // The newest among planned and held statements.
-fn newest_planned(
-    journal: &[u8],
-    form: Form,
-    file: &[u8],
-    places: &[u32],
-    ends: &[u32],
-    count: usize,
-    held: usize,
-    key: &[u8],
-) -> Found
-    requires { Searchable journal.now form file.now places.now ends.now count held }
-    ensures { Finds (pick (eqb (length key.now) key_size) (newest_among form (key_from key.now) (held_of journal.now) (statements_of (coding_of form) form file.now)) (Refused 25 0)) journal.now file.now result }
+fn newest_planned(journal: &[u8], held: usize, parts: Parts, key: &[u8]) -> Result<Found, Refusal>
+    requires { Searchable journal.now parts.form parts.file.now parts.bounds.now held }
+    ensures { Finds (pick (eqb (length key.now) key_size) (newest_among parts.entry.form (key_from key.now) (held_of journal.now) (statements_of (coding_of parts.entry.form) parts.entry.form parts.entry.file.now)) (Err (refusal_by NoSuchEntry 0))) journal.now parts.entry.file.now result }
 {
     if key.len() != KEY {
-        return none_found();
+        return Err(none_found());
     }
-    let p = last_planned(file, places, ends, count, key);
-    if 0 < p {
-        let first = places[p - 1] as usize;
-        let end = ends[p - 1] as usize;
-        return Found::InFile {
-            first,
-            len: end - first,
-            line_end: form.line_end,
-        };
+    if let Some(p) = last_planned(parts, key) {
+        let part = parts.bounds[p];
+        return Ok(Found::InFile {
+            first: part.first as usize,
+            len: (part.end - part.first) as usize,
+            line_end: parts.form.line_end,
+        });
     }
-    let e = last_held(journal, held, key);
-    if e == 0 {
-        return none_found();
-    }
-    let x = entries::entry_at(journal, e - 1);
-    Found::InJournal {
+    let Some(e) = last_held(journal, held, key) else {
+        return Err(none_found());
+    };
+    let Some(x) = entries::entry_at(journal, e) else {
+        return Err(none_found());
+    };
+    Ok(Found::InJournal {
         first: CONTENTS + RECORD * x.first,
         len: RECORD * x.records,
-    }
+    })
 }
 
 // Delivery's refusals first.
-fn find_newest(journal: &[u8], form: Form, file: &[u8], key: &[u8]) -> Found
+fn find_newest(journal: &[u8], form: Form, file: &[u8], key: &[u8]) -> Result<Found, Refusal>
     ensures { Finds (newest_of journal.now form file.now key.now) journal.now file.now result }
 {
-    let plan = planned(journal, form, file);
-    let places = plan.places;
-    let ends = plan.ends;
-    let answer = plan.answer;
-    match answer {
-        Delivery::Done { stored: _, held: _ } => {
-            newest_planned(
-                journal, form, file, &places, &ends, plan.count, plan.entry, key,
-            )
-        }
-        Delivery::Refused(refusal) => {
-            Found::Refused {
-                number: refusal.number,
-                record: refusal.record,
-            }
-        }
-    }
+    let plan = planned(journal, form, file)?;
+    let parts = Parts {
+        form,
+        file,
+        bounds: &plan.bounds[..plan.count],
+    };
+    newest_planned(journal, plan.entry, parts, key)
 }
 
 // Where the newest statement of an account stands: the last that a delivery of the file now would store, else the last held. Delivery's refusals, then 25.
-pub fn newest_place(journal: &[u8], form: Form, file: &[u8], key: &[u8]) -> Found
+pub fn newest_place(journal: &[u8], form: Form, file: &[u8], key: &[u8]) -> Result<Found, Refusal>
     ensures { NewestPlace journal.now form file.now key.now result }
 {
     find_newest(journal, form, file, key)
@@ -531,38 +448,25 @@ pub fn newest_place(journal: &[u8], form: Form, file: &[u8], key: &[u8]) -> Foun
 pub fn newest<'a>(journal: &'a [u8], form: Form, file: &'a [u8], key: &[u8]) -> &'a [u8]
     ensures { NewestPart journal.now form file.now key.now result.now }
 {
-    match find_newest(journal, form, file, key) {
-        Found::InJournal { first, len } => {
-            let end = first + len;
-            &journal[first..end]
-        }
+    let Ok(found) = find_newest(journal, form, file, key) else {
+        return &journal[..0];
+    };
+    match found {
+        Found::InJournal { first, len } => &journal[first..first + len],
         Found::InFile {
             first,
             len,
             line_end: _,
-        } => {
-            let end = first + len;
-            &file[first..end]
-        }
-        Found::Refused {
-            number: _,
-            record: _,
-        } => &journal[..0],
+        } => &file[first..first + len],
     }
 }
 
-// Whether a journal is sound, and how many statements it holds. Whoever has had this asks for bodies without another test.
-pub fn held(journal: &[u8]) -> Holding
+// How many statements a sound journal holds. Whoever has had this asks for bodies without another test.
+pub fn held(journal: &[u8]) -> Result<u64, Refusal>
     ensures { Holds journal.now result }
 {
-    match journal_layout::used(journal) {
-        Usage::Counted {
-            entries,
-            used: _,
-            lines: _,
-        } => Holding::Statements { count: entries },
-        Usage::Refused { number, record } => Holding::Refused { number, record },
-    }
+    let usage = journal_layout::used(journal)?;
+    Ok(usage.entries)
 }
 
 // The body of entry e, from 1, as a part of the journal: itself a file of one statement, without line ends. Empty where there is no such entry.

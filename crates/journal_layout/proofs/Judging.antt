@@ -1,11 +1,9 @@
 -- The judgement of a statement by the first entries: what the loop keeps, and one law for each way out of a turn.
 use mathlib.Core.Path.{◌≡◌, sym}
-use mathlib.Core.Bool.{Bool, true, false, not, ◌&&◌, ◌||◌}
+use mathlib.Core.Bool.{Bool, true, false, not, ◌||◌}
 use mathlib.Core.List.{List}
 use Prim.Native.Nat.{ℕ, suc, ◌+◌, ◌-◌, ◌<◌, ◌≤◌}
 use native.Mathlib.Omega.{arith}
-use lib.Dec.{leb}
-use lib.IntN.{ℤ}
 use mir.Syntax.{w64}
 use mir.Val.{to_z, of_z}
 use borrow.Author.Tests.{not-true, not-false}
@@ -13,7 +11,6 @@ use Rattle.framing.specs.Files.{plain}
 use Rattle.zones.specs.Choice.{pick}
 use Rattle.amounts.proofs.Whole.{back}
 use Rattle.framing.specs.declared.Form.{Form}
-use Rattle.grammar.specs.Record.{same_amount}
 use Rattle.records.specs.declared.Look.{Look}
 use Rattle.records.specs.Looks.{look_of}
 use Rattle.records.specs.Tests.{same_key_in}
@@ -23,7 +20,6 @@ use Rattle.bodies.specs.Bodies.{same_records, closing_in}
 use Rattle.entries.specs.Entries.{body_at}
 use Rattle.journal_layout.specs.declared.Judgement.{Judgement}
 use Rattle.journal_layout.specs.declared.Judgement.TheVariants.{Held, First, After}
-use Rattle.journal_layout.specs.Chains.{follows_by}
 use Rattle.journal_layout.specs.Test.{later_of, held_from, last_from, judged_by}
 
 -- `later` at its returns
@@ -38,11 +34,6 @@ module _ (last : Judgement) (f : Form) (h s : List ℕ) {o p : List ℕ} (a : o 
   same_account {c} {k} q g n =
       let x = look_small c g in
       rw (back k.amount (omega arith)) (sym (rw (← a, ← b, ← e, not-false t n, ← q, ← g)))
-
--- `follows` at its last return
-pub follows_after : {j : Judgement} {d : ℕ} {b : ℤ} (date : ℕ) (balance : ℤ) {t : Bool} → j ≡ After d b → t ≡ same_amount b balance
-    → (leb d date && t) ≡ follows_by j date balance
-follows_after date balance p q = rw (p, q)
 
 module _ (j : List ℕ) (count : ℕ) (f : Form) (s : List ℕ) where
   -- what is answered from here on is the whole answer

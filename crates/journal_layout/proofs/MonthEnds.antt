@@ -3,7 +3,7 @@ use mathlib.Core.Path.{◌≡◌, refl}
 use mathlib.Core.Bool.{Bool, true, false}
 use mathlib.Core.Logic.{◌↔◌}
 use mathlib.Core.List.{List, [], ◌∷◌, ◌++◌}
-use Prim.Native.Nat.{◌<◌}
+use Prim.Native.Nat.{ℕ, ◌<◌}
 use Prim.Native.String.{String}
 use native.Mathlib.Omega.{arith}
 use lib.IntN.{ℤ, pos}
@@ -11,8 +11,7 @@ use borrow.Author.Tests.{lt-leb}
 use Rattle.zones.specs.Class.{every}
 use Rattle.zones.specs.Number.{value_from}
 use Rattle.zones.specs.Text.{bytes}
-use Rattle.dates.specs.declared.Date.{Date}
-use Rattle.dates.specs.declared.Date.TheVariants.{Day, NoDay}
+use Rattle.std.specs.Prelude.{Option, Some, None}
 use Rattle.dates.specs.Days.{year_of, days_in, exists, day_of, date_of}
 use Rattle.grammar.specs.Statements.{Statement}
 use Rattle.journal_layout.specs.declared.Judgement.{Judgement}
@@ -39,9 +38,9 @@ abbrev friday : Judgement
 friday = After 20251128 (pos 100)
 
 -- whether a statement follows it whose 01 has this date and this balance
-abbrev next : Date → ℤ → Bool
-next (Day k) a = follows_by friday k a
-next NoDay a = false
+abbrev next : Option ℕ → ℤ → Bool
+next (Some k) a = follows_by friday k a
+next None a = false
 
 abbrev Follows : String → ℤ → Bool → Type 0
 Follows date a answer = next (date_of (bytes date)) a ≡ answer

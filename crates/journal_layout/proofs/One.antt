@@ -8,7 +8,8 @@ use Rattle.framing.specs.declared.Form.{Form}
 use Rattle.readers.specs.declared.Place.{Place}
 use Rattle.journal_layout.specs.declared.Free.{Free}
 use Rattle.journal_layout.specs.declared.Judgement.{Judgement}
-use Rattle.journal_layout.specs.declared.Opening.{Opening}
+use Rattle.std.specs.Prelude.{Result}
+use Rattle.framing.specs.declared.refusals.Refusal.{Refusal}
 use Rattle.journal_layout.specs.declared.Usage.{Usage}
 use Rattle.journal_layout.specs.Answers.{Later, FollowsOn, Judged, Sound, FirstFree, UsedOf, Opens, EntryPlace, ListedPlace, EntryBody}
 
@@ -27,16 +28,16 @@ one_sound g h = g.answer ∙ sym h.answer
 pub one_first_free : {j : List ℕ} {r q : Free} → FirstFree j r → FirstFree j q → r ≡ q
 one_first_free g h = g.answer ∙ sym h.answer
 
-pub one_used : {j : List ℕ} {r q : Usage} → UsedOf j r → UsedOf j q → r ≡ q
+pub one_used : {j : List ℕ} {r q : Result Usage Refusal} → UsedOf j r → UsedOf j q → r ≡ q
 one_used g h = g.answer ∙ sym h.answer
 
-pub one_open : {j : List ℕ} {r q : Opening} {x y : List ℕ} → Opens j r x → Opens j q y → (r ≡ q) × (x ≡ y)
+pub one_open : {j : List ℕ} {r q : Result Unit Refusal} {x y : List ℕ} → Opens j r x → Opens j q y → (r ≡ q) × (x ≡ y)
 one_open g h = (g.answer ∙ sym h.answer, g.content ∙ sym h.content)
 
-pub one_entry_place : {j : List ℕ} {e : ℕ} {r q : Place} → EntryPlace j e r → EntryPlace j e q → r ≡ q
+pub one_entry_place : {j : List ℕ} {e : ℕ} {r q : Result Place Refusal} → EntryPlace j e r → EntryPlace j e q → r ≡ q
 one_entry_place g h = g.answer ∙ sym h.answer
 
-pub one_listed_place : {j : List ℕ} {e : ℕ} {r q : Place} → ListedPlace j e r → ListedPlace j e q → r ≡ q
+pub one_listed_place : {j : List ℕ} {e : ℕ} {r q : Result Place Refusal} → ListedPlace j e r → ListedPlace j e q → r ≡ q
 one_listed_place g h = g.answer ∙ sym h.answer
 
 pub one_entry : {j : List ℕ} {e : ℕ} {r q : List ℕ} → EntryBody j e r → EntryBody j e q → r ≡ q

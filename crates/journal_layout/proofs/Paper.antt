@@ -22,10 +22,11 @@ use Rattle.bodies.specs.Bodies.{body_of}
 use Rattle.entries.specs.Entries.{table_size}
 use Rattle.journal_layout.specs.declared.Judgement.{Judgement}
 use Rattle.journal_layout.specs.declared.Judgement.TheVariants as J
-use Rattle.journal_layout.specs.declared.Opening.{Opening}
-use Rattle.journal_layout.specs.declared.Opening.TheVariants as O
+use Rattle.std.specs.Prelude.{Result, Ok, Err}
+use Rattle.framing.specs.Refusals.{refusal_of}
+use Rattle.framing.specs.declared.refusals.Refusal.{Refusal}
+use Rattle.framing.proofs.Reasons.{reason_back, reason_positive}
 use Rattle.journal_layout.specs.declared.Usage.{Usage}
-use Rattle.journal_layout.specs.declared.Usage.TheVariants as U
 use Rattle.journal_layout.specs.Chains.{held_among, judgement_of, of_account}
 use Rattle.journal_layout.specs.Layout.{is_length, lines_of, place_among, Journal}
 use Rattle.journal_layout.specs.Test.{sound_in, held_of, usage_of, entry_place_of, listed_place_of, entry_body_of}
@@ -46,7 +47,7 @@ not_sound {j} n = by (sound_in j) refl
 
 -- ---- an entry: 21 where the journal is not sound, then 25
 
-module _ {j : List ℕ} {e : ℕ} {r : Place} (a : EntryPlace j e r) where
+module _ {j : List ℕ} {e : ℕ} {r : Result Place Refusal} (a : EntryPlace j e r) where
   pub entry_unsound : ((ss : List Statement) → Journal j ss → ⊥) → paper_place r ≡ record { number = 21; at = 0; first = 0; len = 0 }
   unfolding entry_place_of
   entry_unsound n = ap paper_place a.answer ∙ rw (not_sound n)
@@ -91,16 +92,16 @@ module _ {j : List ℕ} {e : ℕ} {r : List ℕ} (a : EntryBody j e r) where
     body_there h l = a.answer ∙ rw (journal_sound g, journal_list g, ne_eqb e 0 (λ z. omega arith), le-ltb (length ss) e l)
 
 -- an entry listed: 21 for a length that no journal has; in a sound journal it is the entry
-pub listed_unlong : {j : List ℕ} {e : ℕ} {r : Place} → ListedPlace j e r → is_length (length j) ≡ false → paper_place r ≡ record { number = 21; at = 0; first = 0; len = 0 }
+pub listed_unlong : {j : List ℕ} {e : ℕ} {r : Result Place Refusal} → ListedPlace j e r → is_length (length j) ≡ false → paper_place r ≡ record { number = 21; at = 0; first = 0; len = 0 }
 unfolding listed_place_of
 listed_unlong a n = ap paper_place a.answer ∙ rw n
 
-pub listed_entry : {j : List ℕ} {e : ℕ} {r : Place} {ss : List Statement} → ListedPlace j e r → Journal j ss → EntryPlace j e r
+pub listed_entry : {j : List ℕ} {e : ℕ} {r : Result Place Refusal} {ss : List Statement} → ListedPlace j e r → Journal j ss → EntryPlace j e r
 listed_entry {j} {e} a g = record { answer = a.answer ∙ listed_sound j e (journal_sound g) }
 
 -- ---- how much is used
 
-module _ {j : List ℕ} {r : Usage} (a : UsedOf j r) where
+module _ {j : List ℕ} {r : Result Usage Refusal} (a : UsedOf j r) where
   pub used_unsound : ((ss : List Statement) → Journal j ss → ⊥) → paper_usage r ≡ record { number = 21; at = 0; entries = 0; used = 0; lines = 0 }
   unfolding usage_of
   used_unsound n = ap paper_usage a.answer ∙ rw (not_sound n)
@@ -110,7 +111,7 @@ module _ {j : List ℕ} {r : Usage} (a : UsedOf j r) where
 
 -- ---- opening
 
-module _ {j : List ℕ} {r : Opening} {j' : List ℕ} (a : Opens j r j') where
+module _ {j : List ℕ} {r : Result Unit Refusal} {j' : List ℕ} (a : Opens j r j') where
   pub open_long : is_length (length j) ≡ true → paper_opening r ≡ (0, 0)
   open_long h = ap paper_opening a.answer ∙ rw h
 
@@ -148,35 +149,28 @@ module _ {last : Judgement} {f e : Form} {x b : List ℕ} {h s : Statement} (q :
   pub later_other : same_key h.key s.key ≡ false → paper_judgement r ≡ paper_judgement last
   later_other k = ap paper_judgement (a.answer ∙ later_value t last q) ∙ rw k
 
--- ---- the record determines the answer: where a refusal has a number, no two have the same
+-- ---- the record determines the answer: no two have the same
 
-abbrev pub NumberedOpening : Opening → Type 0
-NumberedOpening O.Opened = Unit
-NumberedOpening (O.Refused n r) = 1 ≤ n
+abbrev opening_from : ℕ × ℕ → Result Unit Refusal
+opening_from p = pick (eqb p.0 0) (Ok tt) (Err (refusal_of p.0 p.1))
 
-abbrev opening_from : ℕ × ℕ → Opening
-opening_from p = pick (eqb p.0 0) O.Opened (O.Refused p.0 p.1)
+from_opening : (r : Result Unit Refusal) → opening_from (paper_opening r) ≡ r
+from_opening (Ok u) = refl
+from_opening (Err e) = rw (reason_positive e.reason, reason_back e.reason)
 
-from_opening : (r : Opening) → NumberedOpening r → opening_from (paper_opening r) ≡ r
-from_opening O.Opened k = refl
-from_opening (O.Refused n r) k = rw (ne_eqb n 0 (λ z. omega arith))
+pub opening_apart : {r q : Result Unit Refusal} → paper_opening r ≡ paper_opening q → r ≡ q
+opening_apart {r} {q} p = sym (from_opening r) ∙ ap opening_from p ∙ from_opening q
 
-pub opening_apart : {r q : Opening} → NumberedOpening r → NumberedOpening q → paper_opening r ≡ paper_opening q → r ≡ q
-opening_apart {r} {q} k l p = sym (from_opening r k) ∙ ap opening_from p ∙ from_opening q l
+abbrev usage_from : PaperUsage → Result Usage Refusal
+usage_from p =
+    pick (eqb p.number 0) (Ok (record { entries = p.entries; used = p.used; lines = p.lines })) (Err (refusal_of p.number p.at))
 
-abbrev pub NumberedUsage : Usage → Type 0
-NumberedUsage (U.Counted e u l) = Unit
-NumberedUsage (U.Refused n r) = 1 ≤ n
+from_usage : (r : Result Usage Refusal) → usage_from (paper_usage r) ≡ r
+from_usage (Ok u) = refl
+from_usage (Err e) = rw (reason_positive e.reason, reason_back e.reason)
 
-abbrev usage_from : PaperUsage → Usage
-usage_from p = pick (eqb p.number 0) (U.Counted p.entries p.used p.lines) (U.Refused p.number p.at)
-
-from_usage : (r : Usage) → NumberedUsage r → usage_from (paper_usage r) ≡ r
-from_usage (U.Counted e u l) k = refl
-from_usage (U.Refused n r) k = rw (ne_eqb n 0 (λ z. omega arith))
-
-pub usage_apart : {r q : Usage} → NumberedUsage r → NumberedUsage q → paper_usage r ≡ paper_usage q → r ≡ q
-usage_apart {r} {q} k l p = sym (from_usage r k) ∙ ap usage_from p ∙ from_usage q l
+pub usage_apart : {r q : Result Usage Refusal} → paper_usage r ≡ paper_usage q → r ≡ q
+usage_apart {r} {q} p = sym (from_usage r) ∙ ap usage_from p ∙ from_usage q
 
 abbrev judgement_from : PaperJudgement → Judgement
 judgement_from p = pick p.held J.Held (pick p.first J.First (J.After p.date p.balance))

@@ -1,5 +1,5 @@
 -- The test for a sound journal in the code: one law for each return, and what the loop over the entries keeps.
-use mathlib.Core.Path.{◌≡◌, refl, sym, ◌∙◌}
+use mathlib.Core.Path.{◌≡◌, sym, ◌∙◌}
 use mathlib.Core.Bool.{Bool, true, false, not, ◌&&◌}
 use mathlib.Core.List.{List}
 use Prim.Native.Nat.{ℕ, suc, ◌+◌, ◌-◌, ◌*◌, ◌%◌, ◌<◌, ◌≤◌}
@@ -23,10 +23,11 @@ use Rattle.records.specs.Looks.{look_of}
 use Rattle.contents.specs.Heads.{record_at_of}
 use Rattle.statements.proofs.Judging.{look_small}
 use Rattle.bodies.specs.Bodies.{single, closing_in}
-use Rattle.entries.specs.declared.Entry.{Entry}
-use Rattle.entries.specs.Entries.{most_entries, entry_size, table_size, line_at, entry_put, entry_bytes, entry_in, lines_from}
+use Rattle.entries.specs.Entries.{Fields, most_entries, entry_size, table_size, line_at, entry_put, entry_bytes, entry_in, lines_from}
 use Rattle.journal_layout.specs.declared.Judgement.{Judgement}
-use Rattle.journal_layout.specs.declared.Opening.TheVariants.{Opened, Refused}
+use Rattle.std.specs.Prelude.{Ok, Err}
+use Rattle.framing.specs.Refusals.{refusal_by}
+use Rattle.framing.specs.declared.refusals.Reason.TheVariants.{UnsoundJournal}
 use Rattle.journal_layout.specs.Chains.{follows_by}
 use Rattle.journal_layout.specs.Layout.{most_lines, is_length, opened_of}
 use Rattle.journal_layout.specs.Test.{judged_by, fits_in, rest_blank, walk_in, sound_in}
@@ -72,18 +73,15 @@ module _ (j : List ℕ) where
     pub line : line_at k ≤ length j
     pub rest : walk_in (most_entries - e) e k j ≡ walk_in most_entries 0 0 j
 
-  pub begins : table_size ≤ length j → Walking 0 0
-  begins h = record { inside = omega arith; line = omega arith; rest = refl }
-
   module _ {e k : ℕ} (g : Walking e k) where
-    pub ends : {t : Bool} → most_entries ≤ e → t ≡ rest_blank j e k → t ≡ walk_in most_entries 0 0 j
+    pub ends : {t : Bool} → most_entries ≤ e → t ≡ rest_blank j most_entries k → t ≡ walk_in most_entries 0 0 j
     unfolding walk_in
     ends h p =
         let i = g.inside in
-        let z : most_entries - e ≡ 0 = omega arith in
+        let z : e ≡ most_entries = omega arith in
         p ∙ rw z at g.rest
 
-    module _ (more : e < most_entries) {x : Entry} (p : x ≡ entry_in j e) where
+    module _ (more : e < most_entries) {x : Fields} (p : x ≡ entry_in j e) where
       step : pick x.used
           (pick (leb (line_at k + record_size * x.records) (length j))
           (pick (fits_in j e k x.records) (walk_in (most_entries - (e + 1)) (e + 1) (k + x.records) j) false)
@@ -144,10 +142,10 @@ module _ (j : List ℕ) {t : Bool} (p : t ≡ is_length (length j)) where
   walked h q = q ∙ sym (rw (← p, not-false t h))
 
   -- opening
-  pub kept_closed : not t ≡ true → Opens j (Refused 21 0) j
+  pub kept_closed : not t ≡ true → Opens j (Err (refusal_by UnsoundJournal 0)) j
   unfolding opened_of
   kept_closed h = record { answer = sym (rw (← p, not-true t h)); content = sym (rw (← p, not-true t h)) }
 
-  pub blanked : {j' : List ℕ} → not t ≡ false → j' ≡ replicate (length j) 32 → Opens j Opened j'
+  pub blanked : {j' : List ℕ} → not t ≡ false → j' ≡ replicate (length j) 32 → Opens j (Ok tt) j'
   unfolding opened_of
   blanked h e = record { answer = sym (rw (← p, not-false t h)); content = e ∙ sym (rw (← p, not-false t h)) }

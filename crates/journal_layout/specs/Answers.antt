@@ -1,23 +1,23 @@
 -- The contract of each public function: its one answer, the one final content of what is lent, and the answer as the paper gives it.
-use Rattle.std.specs.Prelude.{◌≡◌, Bool, true, false, List, ℕ, length, ℤ, pos}
+use Rattle.std.specs.Prelude.{Result, Ok, Err, ◌≡◌, Bool, true, false, List, ℕ, length, ℤ, pos}
 use Rattle.zones.specs.Choice.{pick}
 use Rattle.framing.specs.declared.Form.{Form}
+use Rattle.framing.specs.Refusals.{reason_number, refusal_by}
+use Rattle.framing.specs.declared.refusals.Reason.TheVariants.{UnsoundJournal}
+use Rattle.framing.specs.declared.refusals.Refusal.{Refusal}
 use Rattle.readers.specs.declared.Place.{Place}
 use Rattle.journal_layout.specs.declared.Free.{Free}
 use Rattle.journal_layout.specs.declared.Judgement.{Judgement}
 use Rattle.journal_layout.specs.declared.Judgement.TheVariants as J
-use Rattle.journal_layout.specs.declared.Opening.{Opening}
-use Rattle.journal_layout.specs.declared.Opening.TheVariants.{Opened, Refused}
 use Rattle.journal_layout.specs.declared.Usage.{Usage}
-use Rattle.journal_layout.specs.declared.Usage.TheVariants as U
 use Rattle.journal_layout.specs.Chains.{follows_by}
 use Rattle.journal_layout.specs.Layout.{is_length, opened_of}
 use Rattle.journal_layout.specs.Test.{later_of, judged_by, sound_in, free_in, usage_of, entry_place_of, listed_place_of, entry_body_of}
 
 -- number and record; zero where the paper says zero
-abbrev pub paper_opening : Opening → ℕ × ℕ
-paper_opening Opened = (0, 0)
-paper_opening (Refused n r) = (n, r)
+abbrev pub paper_opening : Result Unit Refusal → ℕ × ℕ
+paper_opening (Ok u) = (0, 0)
+paper_opening (Err e) = (reason_number e.reason, e.«record»)
 
 -- number and record, and the three numbers; zero where the paper says zero
 pub record PaperUsage : Type 0 where
@@ -27,9 +27,9 @@ pub record PaperUsage : Type 0 where
   pub used : ℕ
   pub lines : ℕ
 
-abbrev pub paper_usage : Usage → PaperUsage
-paper_usage (U.Counted e u l) = record { number = 0; at = 0; entries = e; used = u; lines = l }
-paper_usage (U.Refused n r) = record { number = n; at = r; entries = 0; used = 0; lines = 0 }
+abbrev pub paper_usage : Result Usage Refusal → PaperUsage
+paper_usage (Ok u) = record { number = 0; at = 0; entries = u.entries; used = u.used; lines = u.lines }
+paper_usage (Err e) = record { number = reason_number e.reason; at = e.«record»; entries = 0; used = 0; lines = 0 }
 
 -- what a judgement stands for: whether the statement is held, whether it is the first of its account; else the new date and the new balance of the one that it comes after
 pub record PaperJudgement : Type 0 where
@@ -64,20 +64,20 @@ pub record FirstFree (j : List ℕ) (r : Free) : Type 0 where
   pub answer : r ≡ free_in j
 
 -- used
-pub record UsedOf (j : List ℕ) (r : Usage) : Type 0 where
+pub record UsedOf (j : List ℕ) (r : Result Usage Refusal) : Type 0 where
   pub answer : r ≡ usage_of j
 
 -- open: 21 for a length that no journal has
-pub record Opens (j : List ℕ) (r : Opening) (j' : List ℕ) : Type 0 where
-  pub answer : r ≡ pick (is_length (length j)) Opened (Refused 21 0)
+pub record Opens (j : List ℕ) (r : Result Unit Refusal) (j' : List ℕ) : Type 0 where
+  pub answer : r ≡ pick (is_length (length j)) (Ok tt) (Err (refusal_by UnsoundJournal 0))
   pub content : j' ≡ opened_of j
 
 -- entry_place
-pub record EntryPlace (j : List ℕ) (e : ℕ) (r : Place) : Type 0 where
+pub record EntryPlace (j : List ℕ) (e : ℕ) (r : Result Place Refusal) : Type 0 where
   pub answer : r ≡ entry_place_of j e
 
 -- listed_place
-pub record ListedPlace (j : List ℕ) (e : ℕ) (r : Place) : Type 0 where
+pub record ListedPlace (j : List ℕ) (e : ℕ) (r : Result Place Refusal) : Type 0 where
   pub answer : r ≡ listed_place_of j e
 
 -- entry

@@ -1,5 +1,5 @@
 -- The bytes of a journal: the layout of a list of statements. The picture stands in `entries/specs/Entries.antt`.
-use Rattle.std.specs.Prelude.{◌≡◌, Bool, ◌&&◌, ◌||◌, List, [], ◌∷◌, ◌++◌, map, ℕ, ◌+◌, ◌-◌, ◌*◌, ◌%◌, ◌≤◌, eqb, leb, ltb, length, get_or, replicate}
+use Rattle.std.specs.Prelude.{Result, Ok, Err, ◌≡◌, Bool, ◌&&◌, ◌||◌, List, [], ◌∷◌, ◌++◌, map, ℕ, ◌+◌, ◌-◌, ◌*◌, ◌%◌, ◌≤◌, eqb, leb, ltb, length, get_or, replicate}
 use Rattle.zones.specs.Choice.{pick}
 use Rattle.zones.specs.Number.{digits_of}
 use Rattle.zones.specs.Pieces.{flat}
@@ -10,7 +10,9 @@ use Rattle.grammar.specs.Files.{Writable}
 use Rattle.grammar.specs.Parts.{size_of, records_before, no_statement}
 use Rattle.records.specs.July.{record_size, july}
 use Rattle.readers.specs.declared.Place.{Place}
-use Rattle.readers.specs.declared.Place.TheVariants.{At, Refused}
+use Rattle.framing.specs.Refusals.{refusal_by}
+use Rattle.framing.specs.declared.refusals.Reason.TheVariants.{NoSuchEntry}
+use Rattle.framing.specs.declared.refusals.Refusal.{Refusal}
 use Rattle.bodies.specs.Bodies.{body_of, opening_text, closing_text}
 use Rattle.entries.specs.Entries.{most_entries, entry_size, table_size, line_at, key_text, entry_text}
 use Rattle.journal_layout.specs.Chains.{Chained, of_account, Distinct}
@@ -61,10 +63,10 @@ pub record Journal (j : List ℕ) (ss : List Statement) : Type 0 where
   pub kept : Keepable lines ss
 
 -- the place of entry e's body, from 1, among held statements
-abbrev pub place_among : List Statement → ℕ → Place
+abbrev pub place_among : List Statement → ℕ → Result Place Refusal
 place_among ss e =
-    pick (eqb e 0 || ltb (length ss) e) (Refused 25 0)
-    (At (line_at (records_before (e - 1) ss)) (record_size * size_of (get_or ss (e - 1) no_statement)))
+    pick (eqb e 0 || ltb (length ss) e) (Err (refusal_by NoSuchEntry 0))
+    (Ok (record { first = line_at (records_before (e - 1) ss); len = record_size * size_of (get_or ss (e - 1) no_statement) }))
 
 -- the row of a statement: its account key as in its 01, its old date and its new one
 unfoldable pub row_for : Statement → List ℕ

@@ -1,5 +1,5 @@
 -- The test for a sound journal in one pass over the table, for any bytes, and what is read of a journal. `proofs/Exact.antt` shows what passing it means.
-use Rattle.std.specs.Prelude.{Bool, false, ◌&&◌, ◌||◌, List, [], ◌∷◌, ℕ, zero, suc, ◌+◌, ◌-◌, ◌*◌, ◌/◌, eqb, leb, length, take, drop, get_or, replicate}
+use Rattle.std.specs.Prelude.{Result, Ok, Err, Bool, false, ◌&&◌, ◌||◌, List, [], ◌∷◌, ℕ, zero, suc, ◌+◌, ◌-◌, ◌*◌, ◌/◌, eqb, leb, length, take, drop, get_or, replicate, Option, None}
 use Rattle.framing.specs.Files.{plain}
 use Rattle.zones.specs.Choice.{pick}
 use Rattle.zones.specs.Class.{blank, all}
@@ -12,15 +12,16 @@ use Rattle.records.specs.Looks.{look_of}
 use Rattle.records.specs.Tests.{same_key_in}
 use Rattle.contents.specs.Heads.{record_at_of}
 use Rattle.readers.specs.declared.Place.{Place}
-use Rattle.readers.specs.declared.Place.TheVariants.{At, Refused}
+use Rattle.framing.specs.Refusals.{refusal_by}
+use Rattle.framing.specs.declared.refusals.Reason.TheVariants.{UnsoundJournal, NoSuchEntry}
+use Rattle.framing.specs.declared.refusals.Refusal.{Refusal}
 use Rattle.bodies.specs.Bodies.{body_of, single, statement_of, same_records, closing_in}
 use Rattle.entries.specs.declared.Entry.{Entry}
-use Rattle.entries.specs.Entries.{most_entries, entry_size, table_size, line_at, entry_put, entry_bytes, entry_in, lines_from, body_at}
+use Rattle.entries.specs.Entries.{Fields, used_entry, most_entries, entry_size, table_size, line_at, entry_put, entry_bytes, entry_in, lines_from, body_at}
 use Rattle.journal_layout.specs.declared.Free.{Free}
 use Rattle.journal_layout.specs.declared.Judgement.{Judgement}
 use Rattle.journal_layout.specs.declared.Judgement.TheVariants.{Held, First, After}
 use Rattle.journal_layout.specs.declared.Usage.{Usage}
-use Rattle.journal_layout.specs.declared.Usage.TheVariants as U
 use Rattle.journal_layout.specs.Chains.{follows_by}
 use Rattle.journal_layout.specs.Layout.{is_length, lines_of, place_among}
 
@@ -77,6 +78,10 @@ read_from (suc m) e j = pick (entry_in j e).used (statement_of (body_at j e) ∷
 unfoldable pub held_of : List ℕ → List Statement
 held_of j = read_from most_entries 0 j
 
+-- entry e, from 1, as the code gives it: none where it is unused
+abbrev pub numbered : List ℕ → ℕ → Option Entry
+numbered j e = pick (eqb e 0) None (used_entry (entry_in j (e - 1)))
+
 -- the first unused entry, and the line behind the body of the entry before it
 unfoldable pub unused_from : (left e : ℕ) → List ℕ → ℕ
 unused_from zero e j = e
@@ -89,26 +94,28 @@ unfoldable pub free_in : List ℕ → Free
 free_in j = record { entry = unused_from most_entries 0 j; line = line_behind j (unused_from most_entries 0 j) }
 
 -- how much is used: 21; else the statements held, the body lines that they take, and the body lines in all
-unfoldable pub usage_of : List ℕ → Usage
-usage_of j = pick (sound_in j) (U.Counted (length (held_of j)) (lines_of (held_of j)) ((length j - table_size) / record_size)) (U.Refused 21 0)
+unfoldable pub usage_of : List ℕ → Result Usage Refusal
+usage_of j =
+    pick (sound_in j) (Ok (record { entries = length (held_of j); used = lines_of (held_of j); lines = (length j - table_size) / record_size }))
+    (Err (refusal_by UnsoundJournal 0))
 
 -- entry e's body, from 1: its place and its bytes; 21, then 25
-unfoldable pub entry_place_of : List ℕ → ℕ → Place
-entry_place_of j e = pick (sound_in j) (place_among (held_of j) e) (Refused 21 0)
+unfoldable pub entry_place_of : List ℕ → ℕ → Result Place Refusal
+entry_place_of j e = pick (sound_in j) (place_among (held_of j) e) (Err (refusal_by UnsoundJournal 0))
 
 -- the place that an entry names: 25 where it is unused or its lines are not all there
-abbrev pub place_by : List ℕ → Entry → Place
+abbrev pub place_by : List ℕ → Fields → Result Place Refusal
 place_by j x =
-    pick (x.used && leb (line_at x.first + record_size * x.records) (length j)) (At (line_at x.first) (record_size * x.records))
-    (Refused 25 0)
+    pick (x.used && leb (line_at x.first + record_size * x.records) (length j)) (Ok (record { first = line_at x.first; len = record_size * x.records }))
+    (Err (refusal_by NoSuchEntry 0))
 
 -- the same without the sound test, for any bytes: 21 for a length that no journal has; 25 for entry 0, and as the entry says; above 128 there is none
-unfoldable pub listed_place_of : List ℕ → ℕ → Place
-listed_place_of j e = pick (is_length (length j)) (pick (eqb e 0) (Refused 25 0) (place_by j (entry_in j (e - 1)))) (Refused 21 0)
+unfoldable pub listed_place_of : List ℕ → ℕ → Result Place Refusal
+listed_place_of j e = pick (is_length (length j)) (pick (eqb e 0) (Err (refusal_by NoSuchEntry 0)) (place_by j (entry_in j (e - 1)))) (Err (refusal_by UnsoundJournal 0))
 
-abbrev pub body_for : Place → List ℕ → List ℕ
-body_for (At first len) body = body
-body_for (Refused n r) body = []
+abbrev pub body_for : Result Place Refusal → List ℕ → List ℕ
+body_for (Ok p) body = body
+body_for (Err e) body = []
 
 unfoldable pub entry_body_of : List ℕ → ℕ → List ℕ
 entry_body_of j e = body_for (entry_place_of j e) (body_of (get_or (held_of j) (e - 1) no_statement))

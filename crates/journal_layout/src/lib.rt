@@ -6,11 +6,11 @@ ghost use Rattle.zones.specs.Copy.{same_bytes};
 ghost use Rattle.records.specs.July.{record_size};
 ghost use Rattle.entries.specs.Entries.{most_entries, entry_size, table_size, line_at, entry_put};
 ghost use Rattle.journal_layout.specs.Layout.{most_lines, is_length};
-ghost use Rattle.journal_layout.specs.Test.{fits_in, rest_blank, walk_in, unused_from};
+ghost use Rattle.journal_layout.specs.Test.{fits_in, rest_blank, walk_in, numbered, unused_from};
 ghost use Rattle.journal_layout.specs.Answers.{Later, FollowsOn, Judged, Sound, FirstFree, UsedOf, Opens, EntryPlace, ListedPlace, EntryBody};
 
-use entries::{CONTENTS, ENTRY, MOST_ENTRIES};
-use framing::{Form, PLAIN};
+use entries::{CONTENTS, ENTRY, Entry, MOST_ENTRIES};
+use framing::{Form, PLAIN, Reason, Refusal};
 use readers::Place;
 use records::RECORD;
 
@@ -35,17 +35,12 @@ pub struct Free {
     pub line: usize,
 }
 
-// The statements held, the body lines that they take, and the body lines in all; or a refusal.
-#[derive(Clone, Copy)]
-pub enum Usage {
-    Counted { entries: u64, used: u64, lines: u64 },
-    Refused { number: u64, record: u64 },
-}
-
-#[derive(Clone, Copy)]
-pub enum Opening {
-    Opened,
-    Refused { number: u64, record: u64 },
+// The statements held, the body lines that they take, and the body lines in all.
+#[derive(Clone, Copy, PartialEq, Eq)]
+pub struct Usage {
+    pub entries: u64,
+    pub used: u64,
+    pub lines: u64,
 }
 
 // The last statement of an account: h, where its account is that of s, else the last before it.
@@ -81,14 +76,12 @@ pub fn judged(journal: &[u8], count: usize, form: Form, s: &[u8]) -> Judgement
     ensures { Judged journal.now count form s.now result }
 {
     let mut last = Judgement::First;
-    let mut e: usize = 0;
-    while e < count {
+    for e in 0..count {
         let h = entries::body_at(journal, e);
         if bodies::same_records(PLAIN, h, form, s) {
             return Judgement::Held;
         }
         last = later(last, PLAIN, h, s);
-        e += 1;
     }
     last
 }
@@ -139,13 +132,11 @@ fn walk(journal: &[u8]) -> bool
     requires { (table_size ≤ length journal.now) × (length journal.now ≤ line_at most_lines) }
     ensures { result ≡ walk_in most_entries 0 0 journal.now }
 {
-    let mut e: usize = 0;
     let mut k: usize = 0;
-    while e < MOST_ENTRIES {
-        let x = entries::entry_at(journal, e);
-        if !x.used {
+    for e in 0..MOST_ENTRIES {
+        let Some(x) = entries::entry_at(journal, e) else {
             return rest_blank(journal, e, k);
-        }
+        };
         let n = x.records;
         if journal.len() < CONTENTS + RECORD * k + RECORD * n {
             return false;
@@ -154,9 +145,8 @@ fn walk(journal: &[u8]) -> bool
             return false;
         }
         k += n;
-        e += 1;
     }
-    rest_blank(journal, e, k)
+    rest_blank(journal, MOST_ENTRIES, k)
 }
 
 fn is_length(n: usize) -> bool
@@ -178,15 +168,16 @@ pub fn sound(journal: &[u8]) -> bool
 fn first_unused(journal: &[u8]) -> usize
     ensures { result ≡ unused_from most_entries 0 journal.now }
 {
-    let mut e: usize = 0;
-    while e < MOST_ENTRIES {
-        let x = entries::entry_at(journal, e);
-        if !x.used {
-            return e;
-        }
-        e += 1;
-    }
-    e
+    (0..MOST_ENTRIES)
+        .find(|e| entries::entry_at(journal, *e).is_none())
+        .unwrap_or(MOST_ENTRIES)
+}
+
+// Entry e, from 1. None where it is unused, or there is none.
+fn numbered(journal: &[u8], e: usize) -> Option<Entry>
+    ensures { result ≡ numbered journal.now e }
+{
+    entries::entry_at(journal, e.checked_sub(1)?)
 }
 
 // Where the next statement goes in a sound journal.
@@ -194,119 +185,67 @@ pub fn first_free(journal: &[u8]) -> Free
     ensures { FirstFree journal.now result }
 {
     let entry = first_unused(journal);
-    if entry == 0 {
-        return Free { entry, line: 0 };
-    }
-    let x = entries::entry_at(journal, entry - 1);
-    Free {
-        entry,
-        line: x.first + x.records,
+    match numbered(journal, entry) {
+        Some(x) => Free {
+            entry,
+            line: x.first + x.records,
+        },
+        None => Free { entry, line: 0 },
     }
 }
 
-// Whether a journal is sound, and how much of it is used.
-pub fn used(journal: &[u8]) -> Usage
+// How much of a sound journal is used.
+pub fn used(journal: &[u8]) -> Result<Usage, Refusal>
     ensures { UsedOf journal.now result }
 {
     if !sound(journal) {
-        return Usage::Refused {
-            number: 21,
-            record: 0,
-        };
+        return Err(Reason::UnsoundJournal.at(0));
     }
     let free = first_free(journal);
-    Usage::Counted {
+    Ok(Usage {
         entries: free.entry as u64,
         used: free.line as u64,
         lines: ((journal.len() - CONTENTS) / RECORD) as u64,
-    }
-}
-
-fn blank_all(s: &mut [u8])
-    ensures { s.new ≡ replicate (length s.old) 32 }
-{
-    let mut i: usize = 0;
-    while i < s.len() {
-        s[i] = b' ';
-        i += 1;
-    }
+    })
 }
 
 // Blanks any buffer of a right length.
-pub fn open(journal: &mut [u8]) -> Opening
+pub fn open(journal: &mut [u8]) -> Result<(), Refusal>
     ensures { Opens journal.old result journal.new }
 {
     if !is_length(journal.len()) {
-        return Opening::Refused {
-            number: 21,
-            record: 0,
-        };
+        return Err(Reason::UnsoundJournal.at(0));
     }
-    blank_all(journal);
-    Opening::Opened
+    journal.fill(b' ');
+    Ok(())
 }
 
 // Where the body of entry e stands, from 1.
-pub fn entry_place(journal: &[u8], e: u64) -> Place
+pub fn entry_place(journal: &[u8], e: u64) -> Result<Place, Refusal>
     ensures { EntryPlace journal.now e result }
 {
     if !sound(journal) {
-        return Place::Refused {
-            number: 21,
-            record: 0,
-        };
+        return Err(Reason::UnsoundJournal.at(0));
     }
-    if e == 0 {
-        return Place::Refused {
-            number: 25,
-            record: 0,
-        };
-    }
-    let x = entries::entry_at(journal, (e - 1) as usize);
-    if !x.used {
-        return Place::Refused {
-            number: 25,
-            record: 0,
-        };
-    }
-    Place::At {
-        first: CONTENTS + RECORD * x.first,
-        len: RECORD * x.records,
-    }
+    listed_place(journal, e)
 }
 
 // The same without the sound test, so that whoever has just had it need not pay it for each entry. It says what stands there.
-pub fn listed_place(journal: &[u8], e: u64) -> Place
+pub fn listed_place(journal: &[u8], e: u64) -> Result<Place, Refusal>
     ensures { ListedPlace journal.now e result }
 {
     if !is_length(journal.len()) {
-        return Place::Refused {
-            number: 21,
-            record: 0,
-        };
+        return Err(Reason::UnsoundJournal.at(0));
     }
-    if e == 0 {
-        return Place::Refused {
-            number: 25,
-            record: 0,
-        };
-    }
-    let x = entries::entry_at(journal, (e - 1) as usize);
-    if !x.used {
-        return Place::Refused {
-            number: 25,
-            record: 0,
-        };
-    }
+    let Some(x) = numbered(journal, e as usize) else {
+        return Err(Reason::NoSuchEntry.at(0));
+    };
     let first = CONTENTS + RECORD * x.first;
     let len = RECORD * x.records;
     if journal.len() < first + len {
-        return Place::Refused {
-            number: 25,
-            record: 0,
-        };
+        return Err(Reason::NoSuchEntry.at(0));
     }
-    Place::At { first, len }
+    Ok(Place { first, len })
 }
 
 // The body of entry e as a part of the journal: itself a file of one statement, without line ends. Empty on refusal.
@@ -314,13 +253,7 @@ pub fn entry(journal: &[u8], e: u64) -> &[u8]
     ensures { EntryBody journal.now e result.now }
 {
     match entry_place(journal, e) {
-        Place::At { first, len } => {
-            let end = first + len;
-            &journal[first..end]
-        }
-        Place::Refused {
-            number: _,
-            record: _,
-        } => &journal[..0],
+        Ok(place) => &journal[place.first..place.first + place.len],
+        Err(_) => &journal[..0],
     }
 }

@@ -16,11 +16,9 @@ use Rattle.zones.proofs.Every.{class_permitted, blanks_are, are_blanks}
 use Rattle.zones.proofs.Copies.{same_equal, equal_same}
 use Rattle.zones.proofs.Decimal.{value_digits, digits_value, length_digits, digits_all, value_below}
 use Rattle.amounts.specs.Amounts.{sign_index, sign_of, is_amount, amount_of, signed_of, is_debit, magnitude, debit_zero, credit_zero}
-use Rattle.amounts.specs.declared.Amount.TheVariants.{Value, NoAmount}
+use Rattle.std.specs.Prelude.{Option, Some, None}
 use Rattle.amounts.proofs.RoundTrip as amounts
 use Rattle.dates.specs.Days.{date_of}
-use Rattle.dates.specs.declared.Date.{Date}
-use Rattle.dates.specs.declared.Date.TheVariants.{Day, NoDay}
 use Rattle.dates.proofs.RoundTrip as dates
 use Rattle.layouts.specs.Zone.{Kind, mark, blanks, text, either, byte, number, date, amount, El, day_in, is_date, value_in, get, put, as_written_in, holds, passes, marked, zoned, dated, wide}
 
@@ -46,19 +44,19 @@ unfolding every
 one_all c v h = both h refl
 
 -- a date that exists has its number, and an amount its value
-dated_is : (d : Date) → is_date d ≡ true → d ≡ Day (day_in d)
-dated_is (Day k) h = refl
-dated_is NoDay h = absurd (false≢true h)
+dated_is : (d : Option ℕ) → is_date d ≡ true → d ≡ Some (day_in d)
+dated_is (Some k) h = refl
+dated_is None h = absurd (false≢true h)
 
-valued_is : (z : List ℕ) → is_amount z ≡ true → amount_of z ≡ Value (value_in (amount_of z))
+valued_is : (z : List ℕ) → is_amount z ≡ true → amount_of z ≡ Some (value_in (amount_of z))
 unfolding amount_of
 valued_is z h = rw h
 
-is_amount_lem : (z : List ℕ) (v : ℤ) → amount_of z ≡ Value v → is_amount z ≡ true
+is_amount_lem : (z : List ℕ) (v : ℤ) → amount_of z ≡ Some v → is_amount z ≡ true
 unfolding amount_of
 is_amount_lem z v = by (is_amount z) refl
   where
-    by : (t : Bool) → is_amount z ≡ t → pick t (Value (signed_of (is_debit z) (magnitude z))) NoAmount ≡ Value v → t ≡ true
+    by : (t : Bool) → is_amount z ≡ t → pick t (Some (signed_of (is_debit z) (magnitude z))) None ≡ Some v → t ≡ true
     by true e h = refl
     by false e h = let n : ◌≡◌ {A = ℕ} 0 1 = cc in absurd (omega arith)
 

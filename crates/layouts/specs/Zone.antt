@@ -1,14 +1,10 @@
 -- Zones of a record in the paper's positions: their kinds, what each asks of its bytes, and its value.
-use Rattle.std.specs.Prelude.{ℕ, ◌+◌, ◌-◌, ◌^◌, Bool, true, false, ◌&&◌, ◌||◌, List, [], ◌∷◌, ◌++◌, leb, ltb, eqb, length, take, drop, get_or, replicate, ℤ, pos}
+use Rattle.std.specs.Prelude.{ℕ, ◌+◌, ◌-◌, ◌^◌, Bool, true, ◌&&◌, ◌||◌, List, [], ◌∷◌, ◌++◌, leb, ltb, eqb, length, take, drop, get_or, replicate, ℤ, pos, Option, is_some, unwrap_or}
 use Rattle.zones.specs.Class.{Class, digit, blank, permitted, in_class, all}
 use Rattle.zones.specs.Copy.{same_bytes}
 use Rattle.zones.specs.Number.{value_of, digits_of}
 use Rattle.amounts.specs.Amounts.{is_amount, amount_of, amount_text, as_written, has_amount}
-use Rattle.amounts.specs.declared.Amount.{Amount}
-use Rattle.amounts.specs.declared.Amount.TheVariants.{Value, NoAmount}
 use Rattle.dates.specs.Days.{date_of, date_text, is_day}
-use Rattle.dates.specs.declared.Date.{Date}
-use Rattle.dates.specs.declared.Date.TheVariants.{Day, NoDay}
 
 -- positions first to last, counted from 1
 abbrev pub part : (first last : ℕ) → List ℕ → List ℕ
@@ -42,18 +38,15 @@ El date = ℕ
 El amount = ℤ
 
 -- the number of a date, 0 where there is none
-abbrev pub day_in : Date → ℕ
-day_in (Day k) = k
-day_in NoDay = 0
+abbrev pub day_in : Option ℕ → ℕ
+day_in d = unwrap_or d 0
 
-abbrev pub is_date : Date → Bool
-is_date (Day k) = true
-is_date NoDay = false
+abbrev pub is_date : Option ℕ → Bool
+is_date d = is_some d
 
 -- the value of an amount, 0 where there is none
-abbrev pub value_in : Amount → ℤ
-value_in (Value v) = v
-value_in NoAmount = pos 0
+abbrev pub value_in : Option ℤ → ℤ
+value_in a = unwrap_or a (pos 0)
 
 -- a zone's value, for any bytes
 abbrev pub get : (k : Kind) → List ℕ → El k

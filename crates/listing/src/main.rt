@@ -1,14 +1,16 @@
 // The listing program: reads a file with LF line ends from standard input and lists its statements and movements.
 #![tactic(auto)]
 
-use contents::Head;
+ghost use Rattle.std.specs.Prelude.{◌-◌, length};
+ghost use Rattle.std.specs.Iterator.{at_most};
+
+use cases::{Refused, Text};
+use contents::Summary;
 use fields::Movement;
-use framing::Form;
+use framing::{Form, Refusal};
 use grammar::Key;
 use records::RECORD;
-use statements::Checked;
-use std::io;
-use std::io::{Read, Write};
+use std::{fmt, io};
 
 // The bytes of a record with its line end.
 const LINE: usize = RECORD + 1;
@@ -16,154 +18,141 @@ const LINE: usize = RECORD + 1;
 // The most bytes that are listed: 540 records.
 const MOST: usize = 540 * LINE;
 
-fn lf() -> Form {
-    Form { line_end: 1 }
-}
+const LF: Form = Form { line_end: 1 };
 
-fn word(rt: &impl Print, text: &[u8]) -> io::Result<()> {
-    io::writer(rt).write_all(text)
-}
+// A day, as YYYY-MM-DD.
+#[derive(Clone, Copy)]
+struct Day(u32);
 
-fn blank(rt: &impl Print) -> io::Result<()> {
-    word(rt, b" ")
-}
-
-fn number(rt: &impl Print, n: u64) -> io::Result<()> {
-    print!(rt; "{n}")
-}
-
-// A whole number, a minus before a debit.
-fn balance(rt: &impl Print, v: i64) -> io::Result<()> {
-    if v < 0 {
-        word(rt, b"-")?;
+impl fmt::Display for Day {
+    fn fmt<W: fmt::Write>(&self, f: &mut fmt::Formatter<W>) -> fmt::Result {
+        let (year, month, day) = (self.0 / 10000, self.0 / 100 % 100, self.0 % 100);
+        write!(f, "{year:04}-{month:02}-{day:02}")
     }
-    number(rt, amounts::absolute(v))
 }
 
-// Two digits.
-fn pair(rt: &impl Print, n: u64) -> io::Result<()> {
-    let mut text = [0u8; 2];
-    zones::put_number(&mut text, n);
-    word(rt, &text)
-}
+// Bank, branch, account, currency, decimals. `reader_cases` prints the same zones in another order.
+#[derive(Clone, Copy)]
+struct Account(Key);
 
-// YYYY-MM-DD.
-fn date(rt: &impl Print, day: u32) -> io::Result<()> {
-    let k = day as u64;
-    let mut year = [0u8; 4];
-    zones::put_number(&mut year, k / 10000);
-    word(rt, &year)?;
-    word(rt, b"-")?;
-    pair(rt, k / 100 % 100)?;
-    word(rt, b"-")?;
-    pair(rt, k % 100)
-}
-
-// Bank, branch, account, currency, decimals.
-fn account(rt: &impl Print, k: Key) -> io::Result<()> {
-    word(rt, &k.bank)?;
-    blank(rt)?;
-    word(rt, &k.branch)?;
-    blank(rt)?;
-    word(rt, &k.account)?;
-    blank(rt)?;
-    word(rt, &k.currency)?;
-    blank(rt)?;
-    let decimals = [k.decimals];
-    word(rt, &decimals)
+impl fmt::Display for Account {
+    fn fmt<W: fmt::Write>(&self, f: &mut fmt::Formatter<W>) -> fmt::Result {
+        write!(
+            f,
+            "{} {} {} {} {}",
+            Text(&self.0.bank),
+            Text(&self.0.branch),
+            Text(&self.0.account),
+            Text(&self.0.currency),
+            char::from(self.0.decimals)
+        )
+    }
 }
 
 // Booking date, value date, code, amount.
 fn movement_line(rt: &impl Print, m: Movement) -> io::Result<()> {
-    word(rt, b"M ")?;
-    date(rt, m.booked)?;
-    blank(rt)?;
-    date(rt, m.value)?;
-    blank(rt)?;
-    word(rt, &m.code)?;
-    blank(rt)?;
-    balance(rt, m.amount)?;
-    word(rt, b"\n")
+    println!(rt;
+        "M {} {} {} {}",
+        Day(m.booked),
+        Day(m.value),
+        Text(&m.code),
+        m.amount
+    )
 }
 
 // Account, old date and balance, number of movements, new date and balance.
-fn statement_line(rt: &impl Print, h: Head, movements: u64) -> io::Result<()> {
-    word(rt, b"S ")?;
-    account(rt, h.key)?;
-    blank(rt)?;
-    date(rt, h.old_date)?;
-    blank(rt)?;
-    balance(rt, h.old_balance)?;
-    blank(rt)?;
-    number(rt, movements)?;
-    blank(rt)?;
-    date(rt, h.new_date)?;
-    blank(rt)?;
-    balance(rt, h.new_balance)?;
-    word(rt, b"\n")
+fn statement_line(rt: &impl Print, s: Summary) -> io::Result<()> {
+    let h = s.head;
+    println!(rt;
+        "S {} {} {} {} {} {}",
+        Account(h.key),
+        Day(h.old_date),
+        h.old_balance,
+        s.movements,
+        Day(h.new_date),
+        h.new_balance
+    )
 }
 
-// The lines of a statement's movements. They begin after its 01.
-fn movement_lines(rt: &impl Print, part: &[u8]) -> io::Result<()> {
-    let mut at: usize = LINE;
-    while at < part.len() {
-        let step = readers::movement_step(part, lf(), at);
-        if !step.found {
-            return Ok(());
+// The parts of a file from a place on, with one statement each.
+#[derive(Clone, Copy)]
+struct Parts<'a> {
+    file: &'a [u8],
+    at: usize,
+}
+
+impl<'a> Iterator for Parts<'a> {
+    type Item = &'a [u8];
+
+    ghost remaining = { λ s. at_most (length s.file.now - s.at) };
+
+    #[tactic(auto, using(readers::proofs::Walk::end_after_lem, readers::proofs::Walk::end_inside))]
+    fn next(&mut self) -> Option<&'a [u8]> {
+        if self.file.len() <= self.at {
+            return None;
         }
-        movement_line(
-            rt,
-            fields::row_at(contents::record_at(part, at), step.complements),
-        )?;
-        at = step.next;
+        let start = self.at;
+        self.at = readers::statement_end(LF, self.file, start);
+        Some(&self.file[start..self.at])
     }
-    Ok(())
 }
 
-// A statement is the one statement of its part.
+// The movements of a part from a place on.
+#[derive(Clone, Copy)]
+struct Movements<'a> {
+    part: &'a [u8],
+    at: usize,
+}
+
+impl Iterator for Movements<'_> {
+    type Item = Movement;
+
+    ghost remaining = { λ s. at_most (length s.part.now - s.at) };
+
+    #[tactic(auto, using(crate::proofs::Onward::step_onward))]
+    fn next(&mut self) -> Option<Movement> {
+        if self.part.len() <= self.at {
+            return None;
+        }
+        let record = contents::record_at(self.part, self.at);
+        let step = readers::movement_step(self.part, LF, self.at)?;
+        self.at = step.next;
+        Some(fields::row_at(record, step.complements))
+    }
+}
+
+fn refusal_line(rt: &impl Print, refusal: Refusal) -> io::Result<()> {
+    println!(rt; "REFUS {}", Refused(refusal))
+}
+
+// A statement is the one statement of its part. Its movements begin after its 01.
 fn statement_lines(rt: &impl Print, part: &[u8]) -> io::Result<()> {
-    let first = contents::head_of(lf(), part, 1);
-    statement_line(rt, first.head, first.movements)?;
-    movement_lines(rt, part)
-}
-
-fn list(rt: &impl Print, file: &[u8]) -> io::Result<()> {
-    let mut at: usize = 0;
-    while at < file.len() {
-        let end = readers::statement_end(lf(), file, at);
-        statement_lines(rt, &file[at..end])?;
-        at = end;
+    match contents::head_of(LF, part, 1) {
+        Ok(summary) => statement_line(rt, summary)?,
+        Err(refusal) => return refusal_line(rt, refusal),
+    }
+    for movement in (Movements { part, at: LINE }) {
+        movement_line(rt, movement)?;
     }
     Ok(())
 }
 
 fn answer(rt: &impl Print, file: &[u8]) -> io::Result<()> {
     if MOST < file.len() {
-        return word(rt, b"TROP LONG\n");
+        return println!(rt; "TROP LONG");
     }
-    match statements::check(lf(), file) {
-        Checked::Refused { number: n, record } => {
-            word(rt, b"REFUS ")?;
-            number(rt, n)?;
-            blank(rt)?;
-            number(rt, record)?;
-            word(rt, b"\n")
-        }
-        Checked::Accepted {
-            statements,
-            movements: _,
-            complements: _,
-        } => {
-            list(rt, file)?;
-            word(rt, b"OK ")?;
-            number(rt, statements)?;
-            word(rt, b"\n")
+    match statements::check(LF, file) {
+        Err(refusal) => refusal_line(rt, refusal),
+        Ok(counts) => {
+            for part in (Parts { file, at: 0 }) {
+                statement_lines(rt, part)?;
+            }
+            println!(rt; "OK {}", counts.statements)
         }
     }
 }
 
 fn main(rt: HostRuntime) -> io::Result<()> {
-    let mut buffer = Vec::new(rt.alloc());
-    rt.reader().take(MOST as u64 + 1).read_to_end(&mut buffer)?;
-    answer(&rt, &buffer)
+    let file = cases::contents(rt.alloc(), rt.reader(), MOST as u64 + 1)?;
+    answer(&rt, &file)
 }

@@ -12,6 +12,11 @@ const BIT40: u64 = BIT20 * BIT20;
 
 const BIT60: u64 = BIT20 * BIT40;
 
+// The kinds, bits 60 to 63: numbers, since a caller in C reads them there.
+const ANSWER: u64 = 0;
+
+const REFUSAL: u64 = 1;
+
 // Bits 0 to 19 a, 20 to 39 b, 40 to 59 c, 60 to 63 the kind.
 fn pack(kind: u64, a: u64, b: u64, c: u64) -> u64
     requires { Fits kind a b c }
@@ -21,15 +26,17 @@ fn pack(kind: u64, a: u64, b: u64, c: u64) -> u64
 }
 
 // An answer of up to three numbers, each below 1,048,576; of a larger one the low 20 bits.
+#[tactic(auto, unfolding(crate::specs::Packing::answered_of))]
 pub fn answered(a: u64, b: u64, c: u64) -> u64
     ensures { Answered a b c result }
 {
-    pack(0, a % BIT20, b % BIT20, c % BIT20)
+    pack(ANSWER, a % BIT20, b % BIT20, c % BIT20)
 }
 
 // A refusal's number and record.
+#[tactic(auto, unfolding(crate::specs::Packing::refused_of))]
 pub fn refused(number: u64, record: u64) -> u64
     ensures { Refuses number «record» result }
 {
-    pack(1, record % BIT20, number % BIT20, 0)
+    pack(REFUSAL, record % BIT20, number % BIT20, 0)
 }

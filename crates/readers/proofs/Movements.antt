@@ -1,5 +1,6 @@
 -- In an accepted file the step goes from movement to movement, and finds none at the 07.
 use mathlib.Core.Path.{◌≡◌, refl, sym, ap, ap₂, ◌∙◌}
+use Rattle.std.specs.Prelude.{Option, Some, None}
 use mathlib.Core.List.{List, [], ◌∷◌, map}
 use Prim.Native.Nat.{ℕ, zero, suc, ◌+◌, ◌*◌, ◌<◌}
 use native.Mathlib.Nat.{add-zero, zero-add, zero-mul, suc-mul, add-mul}
@@ -20,7 +21,7 @@ use Rattle.grammar.proofs.Parts.{drop_before}
 use Rattle.grammar.proofs.Rows.{adds_then, moves_then, all_cons}
 use Rattle.records.specs.July.{record_size, coding_of, edition_of}
 use Rattle.readers.specs.declared.Step.{Step}
-use Rattle.readers.specs.Steps.{found_step, no_step, step_over, step_in, step_of}
+use Rattle.readers.specs.Steps.{found_step, step_over, step_in, step_of}
 use Rattle.readers.proofs.Codes.{told}
 use Rattle.readers.proofs.Rows.{drop_adds, pieces_from, records_from, fine_from}
 
@@ -49,14 +50,14 @@ module _ (f : Form) (w : ℕ) where
   over_next k [] c d a l n at = refl
   over_next k (m ∷ ms) c d a l n at = refl
 
-  abbrev step_among : (end at : ℕ) → List Rec → Step
-  step_among end at [] = no_step end
-  step_among end at (r ∷ rs) = pick (is_movement r) (over_among 0 (at + w) rs) (no_step end)
+  abbrev step_among : (at : ℕ) → List Rec → Option Step
+  step_among at [] = None
+  step_among at (r ∷ rs) = pick (is_movement r) (Some (over_among 0 (at + w) rs)) None
 
-  step_pieces : (ps : List (List ℕ)) → All (λ p. Fine (coding_of f) (take record_size p)) ps → (end at : ℕ) → step_in w end at ps ≡ step_among end at (map (rec_of (coding_of f)) ps)
+  step_pieces : (ps : List (List ℕ)) → All (λ p. Fine (coding_of f) (take record_size p)) ps → (at : ℕ) → step_in w at ps ≡ step_among at (map (rec_of (coding_of f)) ps)
   unfolding step_in
-  step_pieces [] o end at = refl
-  step_pieces (p ∷ ps) o end at = rw ((told f p o.0).four, over_pieces ps o.1 0 (at + w))
+  step_pieces [] o at = refl
+  step_pieces (p ∷ ps) o at = rw ((told f p o.0).four, over_pieces ps o.1 0 (at + w))
 
 -- behind i movements stand the others
 drop_moves : (f : Form) (k : Key) (i : ℕ) (ms : List Movement) (l : List Rec) → drop (sizes (take i ms)) (moves_then (edition_of f) k ms l) ≡ moves_then (edition_of f) k (drop i ms) l
@@ -101,13 +102,13 @@ module _ {f : Form} {b : List ℕ} {ss : List Statement} (r : Reads (coding_of f
 
   -- the step there is the step among these records
   step_at : (i : ℕ) → step_of b f (before i * width_of record_size f)
-      ≡ step_among f (width_of record_size f) (length b) (before i * width_of record_size f) (drop (before i) (all_records (edition_of f) ss))
+      ≡ step_among f (width_of record_size f) (before i * width_of record_size f) (drop (before i) (all_records (edition_of f) ss))
   unfolding step_of
-  step_at i = rw (r.line, pieces_from r (before i)) (step_pieces f (width_of record_size f) (drop (before i) (pieces (coding_of f) f b)) (fine_from r (before i)) (length b) (before i * width_of record_size f) ∙ ap (step_among f (width_of record_size f) (length b) (before i * width_of record_size f)) (records_from r (before i)))
+  step_at i = rw (r.line, pieces_from r (before i)) (step_pieces f (width_of record_size f) (drop (before i) (pieces (coding_of f) f b)) (fine_from r (before i)) (before i * width_of record_size f) ∙ ap (step_among f (width_of record_size f) (before i * width_of record_size f)) (records_from r (before i)))
 
   -- THE STEP: from the place of a movement to the place after it, with the number of its 05
   pub movement_there : (i : ℕ) {m : Movement} {ms : List Movement} → drop i (get_or ss j no_statement).movements ≡ m ∷ ms
-      → step_of b f (before i * width_of record_size f) ≡ found_step (length m.complements) (before (i + 1) * width_of record_size f)
+      → step_of b f (before i * width_of record_size f) ≡ Some (found_step (length m.complements) (before (i + 1) * width_of record_size f))
   movement_there i {m} {ms} e =
       let s = get_or ss j no_statement in
       let w = width_of record_size f in
@@ -117,12 +118,13 @@ module _ {f : Form} {b : List ℕ} {ss : List Statement} (r : Reads (coding_of f
       let q : at + w + n * w ≡ before (i + 1) * w = rw z (omega (arith, add-mul (before i) (1 + n) w, suc-mul n w)) in
       step_at i
       ∙ rw ((rest i).1, e)
+      (ap Some
       (over_adds f w ((edition_of f).repeats s.key m.posting) m.complements _ 0 (at + w)
       ∙ over_next f w s.key ms s.key s.new_date s.new_balance (rest i).0 (0 + n) (at + w + n * w)
-      ∙ ap₂ found_step (zero-add n) q)
+      ∙ ap₂ found_step (zero-add n) q))
 
   -- behind the last movement there is none
-  pub movement_none : step_of b f (before (length (get_or ss j no_statement).movements) * width_of record_size f) ≡ no_step (length b)
+  pub movement_none : step_of b f (before (length (get_or ss j no_statement).movements) * width_of record_size f) ≡ None
   movement_none =
       let i = length (get_or ss j no_statement).movements in
       step_at i ∙ rw ((rest i).1, drop-length (get_or ss j no_statement).movements)

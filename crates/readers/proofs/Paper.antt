@@ -17,7 +17,11 @@ use Rattle.grammar.specs.Parts.{size_of, records_before, no_statement}
 use Rattle.records.specs.July.{record_size, coding_of}
 use Rattle.records.proofs.Theorems.{counts, reads, unique}
 use Rattle.readers.specs.declared.Place.{Place}
-use Rattle.readers.specs.declared.Place.TheVariants.{At, Refused}
+use Rattle.std.specs.Prelude.{Result, Ok, Err}
+use Rattle.framing.specs.Refusals.{reason_number, reason_of, refusal_of}
+use Rattle.framing.specs.declared.refusals.Refusal.{Refusal}
+use Rattle.framing.proofs.Reasons.{reason_back, reason_positive}
+use Rattle.statements.proofs.Listed.{check_listed}
 use Rattle.readers.specs.Places.{place_among, place_of}
 use Rattle.readers.specs.Answers.{PaperPlace, paper_place, StatementPlace}
 
@@ -29,10 +33,12 @@ none_there k n h = by (eqb k 0) refl
     by true e = refl
     by false e = let z = eqb-false k 0 e in lt-ltb n k (h (omega arith))
 
-module _ {f : Form} {b : List ℕ} {k : ℕ} {r : Place} (g : StatementPlace f b k r) where
+module _ {f : Form} {b : List ℕ} {k : ℕ} {r : Result Place Refusal} (g : StatementPlace f b k r) where
   pub place_refused : {n i : ℕ} → check_of (coding_of f) f b ≡ refused n i → paper_place r ≡ record { number = n; at = i; first = 0; len = 0 }
   unfolding place_of
-  place_refused p = ap paper_place g.answer ∙ rw p
+  place_refused {n} {i} p =
+      let l : reason_number (reason_of n) ≡ n = rw p at (check_listed f b) in
+      ap paper_place g.answer ∙ rw (p, l)
 
   module _ {ss : List Statement} (t : Reads (coding_of f) f b ss) where
     among : r ≡ place_among (width_of record_size f) ss k
@@ -52,18 +58,13 @@ module _ {f : Form} {b : List ℕ} {k : ℕ} {r : Place} (g : StatementPlace f b
         }
     place_there h l = ap paper_place among ∙ rw (ne_eqb k 0 (λ z. omega arith), le-ltb (length ss) k l)
 
--- a refusal has a number
-abbrev pub Numbered : Place → Type 0
-Numbered (At x n) = Unit
-Numbered (Refused n r) = 1 ≤ n
+-- the record determines the place: no two have the same
+abbrev place_from : PaperPlace → Result Place Refusal
+place_from p = pick (eqb p.number 0) (Ok (record { first = p.first; len = p.len })) (Err (refusal_of p.number p.at))
 
--- then the record determines the place: no two have the same
-abbrev place_from : PaperPlace → Place
-place_from p = pick (eqb p.number 0) (At p.first p.len) (Refused p.number p.at)
+from_paper : (r : Result Place Refusal) → place_from (paper_place r) ≡ r
+from_paper (Ok p) = refl
+from_paper (Err e) = rw (reason_positive e.reason, reason_back e.reason)
 
-from_paper : (r : Place) → Numbered r → place_from (paper_place r) ≡ r
-from_paper (At x n) k = refl
-from_paper (Refused n r) k = rw (ne_eqb n 0 (λ z. omega arith))
-
-pub paper_apart : {r q : Place} → Numbered r → Numbered q → paper_place r ≡ paper_place q → r ≡ q
-paper_apart {r} {q} k l p = sym (from_paper r k) ∙ ap place_from p ∙ from_paper q l
+pub paper_apart : {r q : Result Place Refusal} → paper_place r ≡ paper_place q → r ≡ q
+paper_apart {r} {q} p = sym (from_paper r) ∙ ap place_from p ∙ from_paper q

@@ -1,14 +1,14 @@
 -- The walk over records to the next 07: what the loop keeps, and one law for each way out of a turn.
-use mathlib.Core.Path.{◌≡◌, sym, ap, ◌∙◌}
+use mathlib.Core.Path.{◌≡◌, refl, sym, ap, ◌∙◌}
 use mathlib.Core.Bool.{Bool, true, false, ◌&&◌}
 use mathlib.Core.List.{List, [], ◌∷◌}
-use Prim.Native.Nat.{ℕ, zero, suc, ◌+◌, ◌-◌, ◌*◌, ◌/◌, ◌<◌, ◌≤◌}
-use native.Mathlib.Nat.{suc-mul, add-sub_cancel_left, div-add-mod', zero-div}
+use Prim.Native.Nat.{ℕ, suc, ◌+◌, ◌-◌, ◌*◌, ◌/◌, ◌<◌, ◌≤◌}
+use native.Mathlib.Nat.{one-mul, suc-mul, div-add-mod', zero-div}
 use native.Mathlib.Omega.{arith}
 use lib.Dec.{eqb}
 use lib.ListN.{length, take, drop, get_or, length-drop}
-use lib.Seq.{drop-drop, length-take-le}
-use borrow.Author.Tests.{lt-ltb, le-ltb}
+use lib.Seq.{take_all}
+use borrow.Author.Tests.{lt-ltb, le-ltb, ltb-true, ltb-false}
 use Rattle.zones.specs.Choice.{pick}
 use Rattle.zones.specs.Copy.{same_bytes}
 use Rattle.zones.proofs.Bools.{and_one}
@@ -17,7 +17,12 @@ use Rattle.framing.specs.declared.Form.{Form}
 use Rattle.framing.specs.Files.{line_end, unknown_end, width_of, chunks, pieces_of}
 use Rattle.framing.proofs.Cuts.{length_chunks}
 use Rattle.records.specs.July.{record_size, is_code}
-use Rattle.readers.specs.Places.{end_in, end_after, ends_after, Fits}
+use Rattle.std.specs.Prelude.{Some, None, cond}
+use Rattle.std.specs.List.{position_or_len}
+use Rattle.std.proofs.lemmas.Option.{none-some, same_Some}
+use lib.Dec.{ltb}
+use Rattle.framing.proofs.Chunks.{whole_chunks}
+use Rattle.readers.specs.Places.{end_in, end_after, ends_after}
 
 -- the two bytes of a code
 pub two_bytes : (b : List ℕ) (second : ℕ) → 2 ≤ length b → (eqb 48 (get_or b 0 0) && eqb second (get_or b 1 0)) ≡ same_bytes (48 ∷ second ∷ []) (part 1 2 b)
@@ -30,56 +35,49 @@ two_bytes (x ∷ y ∷ b) second h = ap (λ (t : Bool). eqb 48 x && t) (sym (and
 abbrev pub piece_at : ℕ → ℕ → List ℕ → List ℕ
 piece_at w p b = take (p + w - p) (drop p b)
 
--- one piece and the rest
-pub chunk : (w p : ℕ) (b : List ℕ) (left : ℕ) → 0 < left → chunks w left (drop p b) ≡ piece_at w p b ∷ chunks w (left - 1) (drop (p + w) b)
-unfolding chunks
-chunk w p b zero h = absurd (omega arith)
-chunk w p b (suc n) h =
-    let z : suc n - 1 ≡ n = omega arith in
-    rw (add-sub_cancel_left p w, drop-drop, z)
+-- The index of the first 07 among pieces, or their number, by which the end is known.
+abbrev closing_index : List (List ℕ) → ℕ
+closing_index ps = position_or_len (is_code "07") ps
 
--- one record and the rest, in bytes
-pub times : (w left : ℕ) → 0 < left → left * w ≡ w + (left - 1) * w
-times w zero h = absurd (omega arith)
-times w (suc n) h =
-    let z : suc n - 1 ≡ n = omega arith in
-    rw z (omega (arith, suc-mul n w))
+module _ (w end : ℕ) where
+  ended : (at : ℕ) (ps : List (List ℕ)) → end_in w end at ps ≡ cond (ltb (closing_index ps) (length ps)) (at + (closing_index ps + 1) * w) end
+  unfolding end_in
+  ended at [] = refl
+  ended at (p ∷ ps) = by (is_code "07" p) refl (ltb (closing_index ps) (length ps)) refl (ended (at + w) ps)
+    where
+      by : (t : Bool) → is_code "07" p ≡ t → (u : Bool) → ltb (closing_index ps) (length ps) ≡ u
+          → end_in w end (at + w) ps ≡ cond (ltb (closing_index ps) (length ps)) (at + w + (closing_index ps + 1) * w) end
+          → pick (is_code "07" p) (at + w) (end_in w end (at + w) ps)
+          ≡ cond (ltb (closing_index (p ∷ ps)) (length (p ∷ ps))) (at + (closing_index (p ∷ ps) + 1) * w) end
+      by true e u g more =
+          let z : (0 + 1) * w ≡ w = one-mul w in
+          rw (e, lt-ltb 0 (suc (length ps)) (omega arith), z)
+      by false e true g more =
+          let l = ltb-true (closing_index ps) (length ps) g in
+          let z : at + w + (closing_index ps + 1) * w ≡ at + (1 + closing_index ps + 1) * w = omega (arith, suc-mul (closing_index ps + 1) w) in
+          rw (e, lt-ltb (1 + closing_index ps) (suc (length ps)) (omega arith)) (rw g at more ∙ z)
+      by false e false g more =
+          let l = ltb-false (closing_index ps) (length ps) g in
+          rw (e, le-ltb (1 + closing_index ps) (suc (length ps)) (omega arith)) (rw g at more)
 
--- so many records from a place on: the first lies in the file, and is whole
-pub within : (w : ℕ) (b : List ℕ) (left p : ℕ) → p + left * w ≤ length b → 0 < left → p + w ≤ length b
-within w b left p i h = omega (arith, times w left h)
+  pub ended_at : (at : ℕ) (ps : List (List ℕ)) {i : ℕ} → Some i ≡ cond (ltb (closing_index ps) (length ps)) (Some (closing_index ps)) None
+      → at + (i + 1) * w ≡ end_in w end at ps
+  ended_at at ps {i} q = by (ltb (closing_index ps) (length ps)) refl q
+    where
+      by : (t : Bool) → ltb (closing_index ps) (length ps) ≡ t → Some i ≡ cond t (Some (closing_index ps)) None → at + (i + 1) * w ≡ end_in w end at ps
+      by true e p = rw (same_Some _ _ p) (sym (ended at ps ∙ rw e))
+      by false e p = absurd (none-some _ (sym p))
 
-pub piece_length : (w : ℕ) (b : List ℕ) (left p : ℕ) → p + left * w ≤ length b → 0 < left → length (piece_at w p b) ≡ w
-piece_length w b left p i h =
-    rw (add-sub_cancel_left p w) (length-take-le w (drop p b) (omega (arith, length-drop p b, within w b left p i h)))
+  pub ended_none : (at : ℕ) (ps : List (List ℕ)) → None ≡ cond (ltb (closing_index ps) (length ps)) (Some (closing_index ps)) None → end ≡ end_in w end at ps
+  ended_none at ps q = by (ltb (closing_index ps) (length ps)) refl q
+    where
+      by : (t : Bool) → ltb (closing_index ps) (length ps) ≡ t → None ≡ cond t (Some (closing_index ps)) None → end ≡ end_in w end at ps
+      by true e p = absurd (none-some _ p)
+      by false e p = sym (ended at ps ∙ rw e)
 
-module _ (w : ℕ) (b : List ℕ) (whole : ℕ) where
-  -- what is answered from here on is the whole answer
-  pub record Going (left p : ℕ) : Type 0 where
-    pub inside : p + left * w ≤ length b
-    pub rest : end_in w (length b) p (chunks w left (drop p b)) ≡ whole
-
-  module _ {left p : ℕ} (g : Going left p) where
-    step : 0 < left
-        → end_in w (length b) p (chunks w left (drop p b))
-        ≡ pick (is_code "07" (piece_at w p b)) (p + w) (end_in w (length b) (p + w) (chunks w (left - 1) (drop (p + w) b)))
-    unfolding end_in
-    step h = rw (chunk w p b left h)
-
-    -- a 07: its end
-    pub stops : {t : Bool} → 0 < left → t ≡ is_code "07" (piece_at w p b) → t ≡ true → p + w ≡ whole
-    stops h e y = sym (step h ∙ rw (sym e ∙ y)) ∙ g.rest
-
-    -- another record: one less is left
-    pub again : {t : Bool} → 0 < left → t ≡ is_code "07" (piece_at w p b) → t ≡ false → Going (left - 1) (p + w)
-    again h e y = record { inside = omega (arith, times w left h, g.inside); rest = sym (step h ∙ rw (sym e ∙ y)) ∙ g.rest }
-
-    -- none is left: the file's end
-    pub ends : left ≤ 0 → length b ≡ whole
-    unfolding end_in chunks
-    ends h =
-        let z : left ≡ 0 = omega arith in
-        sym (rw z) ∙ g.rest
+-- the rest of a file from a place on, as the code cuts it
+pub rest_is : (at : ℕ) (b : List ℕ) → take (length b - at) (drop at b) ≡ drop at b
+rest_is at b = take_all (length b - at) (drop at b) (omega (arith, length-drop at b))
 
 -- the cursor's answers, as the code comes to them
 module _ (f : Form) (b : List ℕ) (at : ℕ) where
@@ -93,14 +91,10 @@ module _ (f : Form) (b : List ℕ) (at : ℕ) where
       let z : length b - at ≡ 0 = omega arith in
       sym (rw (le-ltb 2 (line_end f) h, length-drop at b, z, zero-div))
 
-  pub end_walked : {r : ℕ} → line_end f ≤ 2
-      → r ≡ end_in (record_size + line_end f) (length b) at (chunks (record_size + line_end f) ((length b - at) / (record_size + line_end f)) (drop at b))
+  pub end_walked : {r : ℕ} → line_end f ≤ 2 → r ≡ end_in (record_size + line_end f) (length b) at (whole_chunks (record_size + line_end f) (drop at b))
       → r ≡ end_after f b at
   unfolding end_after width_of
-  end_walked h e = e ∙ sym (rw (le-ltb 2 (line_end f) h, length-drop at b))
-
-  pub fits : at < length b → Fits (record_size + line_end f) ((length b - at) / (record_size + line_end f)) at (length b)
-  fits h = record { wide = omega arith; inside = omega (arith, div-add-mod' (length b - at) (record_size + line_end f)) }
+  end_walked h e = e ∙ sym (rw (le-ltb 2 (line_end f) h))
 
 -- an end lies after every place that is not after the row and is before the end
 end_later : (w end lo at : ℕ) (ps : List (List ℕ)) → 0 < w → lo < end → lo ≤ at → lo < end_in w end at ps
@@ -145,16 +139,15 @@ module _ (f : Form) (b : List ℕ) (at : ℕ) where
           end_most w (length b) at (pieces_of record_size f (drop at b))
           (rw l (omega (arith, length-drop at b, div-add-mod' (length (drop at b)) w)))
 
--- one end after another
-pub ends_step : (f : Form) (b : List ℕ) (left at : ℕ) → 0 < left → ends_after f b (left - 1) (end_after f b at) ≡ ends_after f b left at
+-- one end after another: some are behind
+pub ends_step : (f : Form) (b : List ℕ) (skip behind at : ℕ) → behind < skip → ends_after f b (skip - (behind + 1)) (end_after f b at) ≡ ends_after f b (skip - behind) at
 unfolding ends_after
-ends_step f b zero at h = absurd (omega arith)
-ends_step f b (suc n) at h =
-    let z : suc n - 1 ≡ n = omega arith in
+ends_step f b skip behind at h =
+    let z : skip - behind ≡ suc (skip - (behind + 1)) = omega arith in
     rw z
 
-pub ends_none : (f : Form) (b : List ℕ) (left at : ℕ) → left ≤ 0 → at ≡ ends_after f b left at
+pub ends_none : (f : Form) (b : List ℕ) (skip behind at : ℕ) → skip ≤ behind → at ≡ ends_after f b (skip - behind) at
 unfolding ends_after
-ends_none f b left at h =
-    let z : left ≡ 0 = omega arith in
+ends_none f b skip behind at h =
+    let z : skip - behind ≡ 0 = omega arith in
     rw z

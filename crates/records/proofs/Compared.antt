@@ -1,19 +1,17 @@
--- Two records compared, and two balances.
-use mathlib.Core.Path.{◌≡◌, refl, ap, ◌∙◌}
-use mathlib.Core.Bool.{Bool, true, false, ◌&&◌, not, and-false}
+-- Two records compared.
+use mathlib.Core.Path.{◌≡◌, ap, ◌∙◌}
+use mathlib.Core.Bool.{Bool, false, ◌&&◌, and-false}
 use mathlib.Core.List.{List}
-use Prim.Native.Nat.{ℕ, ◌<◌, ◌≤◌}
+use Prim.Native.Nat.{ℕ}
 use native.Mathlib.Nat.{add-zero}
 use native.Mathlib.Omega.{arith}
-use lib.Dec.{eqb, ltb}
+use lib.Dec.{eqb}
 use lib.ListN.{length, take, drop, get_or}
 use lib.Seq.{get_or-take, get_or-drop}
-use lib.IntN.{ℤ, pos, negsuc}
-use lib.Signed.{lt_z}
-use borrow.Author.Tests.{ltb-true, ltb-false, eq-eqb, ne_eqb}
+use borrow.Author.Tests.{eq-eqb, ne_eqb}
 use Rattle.zones.specs.Copy.{same_bytes}
 use Rattle.layouts.specs.Zone.{part}
-use Rattle.grammar.specs.Record.{same_key, same_amount}
+use Rattle.grammar.specs.Record.{same_key}
 use Rattle.records.specs.July.{record_size}
 use Rattle.records.specs.Tests.{same_key_in, same_front_in}
 
@@ -47,27 +45,3 @@ module _ (a b : List ℕ) where
   pub no_front_second : (length b ≡ record_size → ⊥) → false ≡ same_front_in a b
   unfolding same_front_in
   no_front_second h = rw (ne_eqb (length b) record_size h, and-false (eqb (length a) record_size))
-
--- equality from order
-same_ltb : (a b : ℕ) → (not (ltb a b) && not (ltb b a)) ≡ eqb a b
-same_ltb a b = go (ltb a b) (ltb b a) refl refl
-  where
-    go : (t u : Bool) → ltb a b ≡ t → ltb b a ≡ u → (not (ltb a b) && not (ltb b a)) ≡ eqb a b
-    go true u p q = let h : a < b = ltb-true a b p in rw (p, ne_eqb a b (omega arith))
-    go false true p q = let h : b < a = ltb-true b a q in rw (p, q, ne_eqb a b (omega arith))
-    go false false p q =
-        let h : b ≤ a = ltb-false a b p in
-        let k : a ≤ b = ltb-false b a q in
-        rw (p, q, eq-eqb a b (omega arith))
-
-swap : (t u : Bool) → (not t && not u) ≡ (not u && not t)
-swap true true = refl
-swap true false = refl
-swap false true = refl
-swap false false = refl
-
-pub same_order : (a b : ℤ) → (not (lt_z a b) && not (lt_z b a)) ≡ same_amount a b
-same_order (pos a) (pos b) = same_ltb a b
-same_order (pos a) (negsuc b) = refl
-same_order (negsuc a) (pos b) = refl
-same_order (negsuc a) (negsuc b) = swap (ltb b a) (ltb a b) ∙ same_ltb a b

@@ -14,8 +14,7 @@ use Rattle.zones.proofs.Bools.{both}
 use Rattle.zones.proofs.Every.{every_append, class_permitted, are_blanks}
 use Rattle.zones.proofs.Copies.{same_equal}
 use Rattle.dates.specs.Days.{date_of, is_day}
-use Rattle.dates.specs.declared.Date.{Date}
-use Rattle.dates.specs.declared.Date.TheVariants.{Day, NoDay}
+use Rattle.std.specs.Prelude.{Option, Some, None}
 use Rattle.dates.proofs.RoundTrip as dates
 use Rattle.layouts.specs.Zone as Z
 use Rattle.layouts.specs.Zone.{part, Zone, zone, day_in, is_date, zoned, dated, run}
@@ -124,10 +123,10 @@ judged_held b l j = (by (is_mmo (part 46 118 b)) j, holds_text b l j)
 
 -- VALUES TO BYTES
 -- six bytes that read as a day are digits, and a date that exists
-reads_day : (d : Date) → is_day (day_in d) ≡ true → d ≡ Day (day_in d)
+reads_day : (d : Option ℕ) → is_day (day_in d) ≡ true → d ≡ Some (day_in d)
 unfolding is_day
-reads_day (Day k) h = refl
-reads_day NoDay h = absurd (false≢true h)
+reads_day (Some k) h = refl
+reads_day None h = absurd (false≢true h)
 
 day_digits : (z : List ℕ) → is_day (day_in (date_of z)) ≡ true → all digit z ≡ true
 day_digits z h =

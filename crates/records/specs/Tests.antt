@@ -3,6 +3,8 @@ use Rattle.std.specs.Prelude.{Bool, not, ◌&&◌, ◌||◌, List, ℕ, leb, ltb
 use Rattle.zones.specs.Copy.{same_bytes}
 use Rattle.layouts.specs.Zone.{part}
 use Rattle.grammar.specs.Record.{same_key}
+use Rattle.records.specs.declared.rules.LastMovement.{LastMovement}
+use Rattle.records.specs.declared.rules.LastMovement.TheVariants.{Absent, Plain, WithMmo}
 use Rattle.records.specs.July.{record_size, most_in_statement, key_in}
 
 -- the key, and positions 3 to 40, of two records of 120 bytes
@@ -14,6 +16,12 @@ same_key_in a b = both_records a b && same_key (key_in a) (key_in b)
 
 unfoldable pub same_front_in : List ℕ → List ℕ → Bool
 same_front_in a b = both_records a b && same_bytes (part 3 40 a) (part 3 40 b)
+
+-- the movement of the open statement as a number: 0 where it has none, 1 for one without an MMO, 2 for one with
+abbrev pub movement_of : LastMovement → ℕ
+movement_of Absent = 0
+movement_of Plain = 1
+movement_of WithMmo = 2
 
 abbrev pub misplaced_by : (size movement kind : ℕ) → Bool
 misplaced_by size movement kind =

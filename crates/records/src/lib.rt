@@ -1,20 +1,16 @@
 // One record of a file: its kind, whether it fits its layout, and the values that the rules look at. A record is looked at where it stands, never copied.
 #![tactic(auto)]
 
-ghost use Rattle.std.specs.Prelude.{◌≡◌, ◌∷◌, [], length};
+ghost use Rattle.std.specs.Prelude.{◌≡◌, [], length};
 ghost use Rattle.zones.specs.Class.{digit, blank, permitted, alnum, all};
 ghost use Rattle.std.proofs.Math.Bool.Bool.{true};
-ghost use Rattle.zones.specs.Copy.{same_bytes};
 ghost use Rattle.amounts.specs.Amounts.{is_amount};
 ghost use Rattle.dates.specs.Days.{date_of};
-ghost use Rattle.layouts.specs.Zone.{part, zoned, dated, run, day_in, is_date, value_in, blanks, text};
+ghost use Rattle.layouts.specs.Zone.{part, zoned, dated, run, is_date, blanks, text};
 ghost use Rattle.records.specs.Layouts.{front, layout01, layout04, layout05, layout_mmo};
-ghost use Rattle.records.specs.July.{record_size, unknown_code, is_mmo, layout_for};
-ghost use Rattle.records.specs.Looks.{kind_of, has_value, either_of};
+ghost use Rattle.records.specs.July.{record_size, is_mmo, layout_for};
+ghost use Rattle.records.specs.Looks.{kind_of, judged_as, either_of, code_of};
 ghost use Rattle.records.specs.Answers.{LookAt, SameKey, SameFront};
-
-use amounts::Amount;
-use dates::Date;
 
 pub mod rules;
 
@@ -30,11 +26,28 @@ pub const MOST_IN_STATEMENT: u64 = 9999;
 // The bytes of a complement's text: the qualifier and the information of a 05.
 pub const TEXT: usize = 73;
 
-// What the check needs to know of a record. The kind of an unknown code is 7, as the definitions have it.
+// The kind of a record, by its code: 01, 04, 05 and 07.
+#[derive(Clone, Copy, PartialEq, Eq)]
+pub enum Kind {
+    Opening = 1,
+    Movement = 4,
+    Complement = 5,
+    Closing = 7,
+}
+
+// Its code as a number.
+impl From<Kind> for u8 {
+    ghost from_gives = { λ kind n. n ≡ code_of kind };
+
+    fn from(kind: Kind) -> u8 {
+        kind as u8
+    }
+}
+
+// What the check needs to know of a record. A record of an unknown code has no kind. A date or an amount that does not exist is 0, and the record undated or misfit: the readers take both numbers from any record, as `LookAt` says.
 #[derive(Clone, Copy)]
 pub struct Look {
-    pub unknown: bool,
-    pub kind: u8,
+    pub kind: Option<Kind>,
     pub misfit: bool,
     pub undated: bool,
     pub day: u32,
@@ -43,35 +56,21 @@ pub struct Look {
     pub permitted: bool,
 }
 
-fn is_code(r: &[u8], second: u8) -> bool
-    requires { length r.now ≡ record_size }
-    ensures { result ≡ same_bytes (48 ∷ second ∷ []) (part 1 2 r.now) }
-{
-    (48 == r[0]) & (second == r[1])
-}
-
-fn kind(r: &[u8]) -> u8
+// None is 6: unknown record code.
+fn kind_of(r: &[u8]) -> Option<Kind>
     requires { length r.now ≡ record_size }
     ensures { result ≡ kind_of r.now }
 {
-    if is_code(r, b'1') {
-        return 1;
+    if r[0] != b'0' {
+        return None;
     }
-    if is_code(r, b'4') {
-        return 4;
+    match r[1] {
+        b'1' => Some(Kind::Opening),
+        b'4' => Some(Kind::Movement),
+        b'5' => Some(Kind::Complement),
+        b'7' => Some(Kind::Closing),
+        _ => None,
     }
-    if is_code(r, b'5') {
-        return 5;
-    }
-    7
-}
-
-// 6: unknown record code.
-fn unknown(r: &[u8]) -> bool
-    requires { length r.now ≡ record_size }
-    ensures { result ≡ unknown_code r.now }
-{
-    !(is_code(r, b'1') | (is_code(r, b'4') | (is_code(r, b'5') | is_code(r, b'7'))))
 }
 
 fn mmo(r: &[u8]) -> bool
@@ -81,43 +80,7 @@ fn mmo(r: &[u8]) -> bool
     zones::same(b"MMO", &r[45..48])
 }
 
-fn day_in(d: Date) -> u32
-    ensures { result ≡ day_in d }
-{
-    match d {
-        Date::Day(k) => k,
-        Date::NoDay => 0,
-    }
-}
-
-fn is_date(d: Date) -> bool
-    ensures { result ≡ is_date d }
-{
-    match d {
-        Date::Day(_) => true,
-        Date::NoDay => false,
-    }
-}
-
-fn value_in(a: Amount) -> i64
-    ensures { result ≡ value_in a }
-{
-    match a {
-        Amount::Value(v) => v,
-        Amount::NoAmount => 0,
-    }
-}
-
-fn has_value(a: Amount) -> bool
-    ensures { result ≡ has_value a }
-{
-    match a {
-        Amount::Value(_) => true,
-        Amount::NoAmount => false,
-    }
-}
-
-// Positions 3 to 40 of an 01 or 07.
+// Positions 3 to 40 of an 01 or 07, a line for each zone of the table, in its order. With the two zones that differ in a 04 as parameters the order would be lost.
 fn balance_front(r: &[u8]) -> bool
     requires { length r.now ≡ record_size }
     ensures { result ≡ run zoned (front "01" blanks blanks []) r.now }
@@ -214,31 +177,27 @@ fn mmo_zones(r: &[u8]) -> bool
 }
 
 // 8: the zones of a record's own layout.
-fn zones_fit(r: &[u8], kind: u8, mmo: bool, amount: bool, clean: bool) -> bool
-    requires { (length r.now ≡ record_size) × (kind ≡ kind_of r.now) × (mmo ≡ is_mmo (part 46 118 r.now)) × (amount ≡ is_amount (part 91 104 r.now)) × (clean ≡ all permitted r.now) }
+fn zones_fit(r: &[u8], kind: Kind, mmo: bool, amount: bool, clean: bool) -> bool
+    requires { (length r.now ≡ record_size) × (kind ≡ judged_as r.now) × (mmo ≡ is_mmo (part 46 118 r.now)) × (amount ≡ is_amount (part 91 104 r.now)) × (clean ≡ all permitted r.now) }
     ensures { result ≡ run zoned (layout_for r.now) r.now }
 {
-    if kind == 4 {
-        return movement_zones(r, amount, clean);
+    match kind {
+        Kind::Movement => movement_zones(r, amount, clean),
+        Kind::Complement if mmo => mmo_zones(r),
+        Kind::Complement => plain_zones(r, clean),
+        Kind::Opening | Kind::Closing => balance_zones(r, amount),
     }
-    if kind != 5 {
-        return balance_zones(r, amount);
-    }
-    if mmo {
-        return mmo_zones(r);
-    }
-    plain_zones(r, clean)
 }
 
 // 9: the date of every record, and the value date of a 04.
-fn dates_fit(r: &[u8], kind: u8, exists: bool) -> bool
-    requires { (length r.now ≡ record_size) × (kind ≡ kind_of r.now) × (exists ≡ is_date (date_of (part 35 40 r.now))) }
+fn dates_fit(r: &[u8], kind: Kind, exists: bool) -> bool
+    requires { (length r.now ≡ record_size) × (kind ≡ judged_as r.now) × (exists ≡ is_date (date_of (part 35 40 r.now))) }
     ensures { result ≡ run dated (layout_for r.now) r.now }
 {
-    if kind == 4 {
-        return exists & is_date(dates::read(&r[42..48]));
+    match kind {
+        Kind::Movement => exists & dates::read(&r[42..48]).is_some(),
+        _ => exists,
     }
-    exists
 }
 
 pub fn look_at(r: &[u8]) -> Look
@@ -246,8 +205,7 @@ pub fn look_at(r: &[u8]) -> Look
 {
     if r.len() != RECORD {
         return Look {
-            unknown: true,
-            kind: 7,
+            kind: None,
             misfit: true,
             undated: true,
             day: 0,
@@ -256,18 +214,19 @@ pub fn look_at(r: &[u8]) -> Look
             permitted: false,
         };
     }
-    let kind = kind(r);
+    let kind = kind_of(r);
+    // An unknown code has the layout of a 07.
+    let judged = kind.unwrap_or(Kind::Closing);
     let mmo = mmo(r);
     let date = dates::read(&r[34..40]);
     let amount = amounts::read(&r[90..104]);
     let clean = zones::permitted(r);
     Look {
-        unknown: unknown(r),
         kind,
-        misfit: !zones_fit(r, kind, mmo, has_value(amount), clean),
-        undated: !dates_fit(r, kind, is_date(date)),
-        day: day_in(date),
-        amount: value_in(amount),
+        misfit: !zones_fit(r, judged, mmo, amount.is_some(), clean),
+        undated: !dates_fit(r, judged, date.is_some()),
+        day: date.unwrap_or(0),
+        amount: amount.unwrap_or(0),
         mmo,
         permitted: clean,
     }

@@ -1,8 +1,27 @@
-// The rules that look at the state between two records, on numbers: the records of the open statement so far (0 where none is open), and its
-// movement (0 none, 1 without an MMO, 2 with one).
+// The rules that look at the state between two records: the records of the open statement so far, 0 where none is open, and its last movement.
+// They take a movement and a kind as numbers, and not as enums, since each has an answer for any number.
+ghost use Rattle.std.specs.Prelude.{◌≡◌};
+ghost use Rattle.records.specs.Tests.{movement_of};
 ghost use Rattle.records.specs.Answers.{Misplaced, SecondMmo, Misdated, SameBalance, Unsummed, TooLong};
 
 use crate::MOST_IN_STATEMENT;
+
+// The last 04 of a statement: there is none yet, its 05 so far have no MMO, or one has.
+#[derive(Clone, Copy, PartialEq, Eq)]
+pub enum LastMovement {
+    Absent,
+    Plain,
+    WithMmo,
+}
+
+// Its number: 0, 1, 2.
+impl From<LastMovement> for u8 {
+    ghost from_gives = { λ movement n. n ≡ movement_of movement };
+
+    fn from(movement: LastMovement) -> u8 {
+        movement as u8
+    }
+}
 
 // 7: record out of place.
 pub fn misplaced(size: u64, movement: u8, kind: u8) -> bool
@@ -28,7 +47,7 @@ pub fn misdated(size: u64, kind: u8, day: u32, old: u32, latest: u32) -> bool
 pub fn same_balance(a: i64, b: i64) -> bool
     ensures { SameBalance a b result }
 {
-    !(a < b) & !(b < a)
+    a == b
 }
 
 // 13: sum wrong, seen at the 07.

@@ -1,11 +1,12 @@
 -- Each test of the judgement, in the terms of the code, is a rule on the piece and the state.
-use mathlib.Core.Path.{◌≡◌, ap, ◌∙◌}
+use mathlib.Core.Path.{◌≡◌, refl, ap, ◌∙◌}
 use mathlib.Core.Bool.{Bool, true, false, not}
 use mathlib.Core.List.{List}
 use Prim.Native.Nat.{ℕ, ◌+◌, ◌-◌, ◌^◌, ◌<◌, ◌≤◌}
 use native.Mathlib.Nat.{add-sub_cancel_left}
 use native.Mathlib.Omega.{arith}
 use lib.Dec.{eqb}
+use Rattle.std.specs.Prelude.{Some, None, unwrap_or}
 use lib.ListN.{length, take, drop, length-drop}
 use lib.Seq.{take_all, length-take-le}
 use lib.IntN.{ℤ, nat_abs}
@@ -22,18 +23,19 @@ use Rattle.framing.specs.declared.Form.{Form}
 use Rattle.framing.specs.Files.{end_of, wrong_end}
 use Rattle.grammar.specs.Record.{same_key, same_amount}
 use Rattle.grammar.specs.Rules.{out_of_place, second_mmo, misdated, unsummed}
-use Rattle.records.specs.July.{record_size, july2004, unknown_code, is_mmo, misfit, undated, key_in, date_in, amount_in, decode_record}
-use Rattle.records.specs.Looks.{kind_of, no_record, look_of}
-use Rattle.records.specs.Tests.{same_key_in, same_front_in, misplaced_by, second_mmo_by, misdated_by, unsummed_by}
+use Rattle.records.specs.July.{record_size, july2004, is_code, unknown_code, is_mmo, misfit, undated, key_in, date_in, amount_in, decode_record}
+use Rattle.records.specs.Looks.{kind_of, code_of, no_record, look_of}
+use Rattle.records.specs.Tests.{same_key_in, same_front_in, movement_of, misplaced_by, second_mmo_by, misdated_by, unsummed_by}
+use Rattle.records.specs.declared.Kind.{Kind}
+use Rattle.records.specs.declared.Kind.TheVariants.{Closing}
 use Rattle.records.specs.declared.Look.{Look}
 use Rattle.statements.specs.declared.Progress.{Progress}
 use Rattle.statements.specs.Progress.{record_at, mode_of, flags_of}
 use Rattle.statements.proofs.Taken.{amount_small}
-use Rattle.statements.proofs.Modes.{place_is, second_is, dates_is, sum_is}
+use Rattle.statements.proofs.Modes.{stands, decoded, place_is, second_is, dates_is, sum_is}
 
 -- what a look says of its record
 pub record Told (b : List ℕ) (k : Look) : Type 0 where
-  pub unknown : k.unknown ≡ unknown_code b
   pub kind : k.kind ≡ kind_of b
   pub misfits : k.misfit ≡ misfit b
   pub undates : k.undated ≡ undated b
@@ -45,9 +47,8 @@ pub record Told (b : List ℕ) (k : Look) : Type 0 where
 pub told : (b : List ℕ) (k : Look) → length b ≡ record_size → k ≡ look_of b → Told b k
 unfolding look_of
 told b k l e =
-    let s : k ≡ record { unknown = unknown_code b; kind = kind_of b; misfit = misfit b; undated = undated b; day = date_in b; amount = amount_in b; mmo = is_mmo (part 46 118 b); permitted = all permitted b } = e ∙ rw (eq-eqb (length b) record_size l) in
+    let s : k ≡ record { kind = kind_of b; misfit = misfit b; undated = undated b; day = date_in b; amount = amount_in b; mmo = is_mmo (part 46 118 b); permitted = all permitted b } = e ∙ rw (eq-eqb (length b) record_size l) in
     record {
-      unknown = ap (λ x. x.unknown) s;
       kind = ap (λ x. x.kind) s;
       misfits = ap (λ x. x.misfit) s;
       undates = ap (λ x. x.undated) s;
@@ -65,7 +66,7 @@ pub look_small : (b : List ℕ) {k : Look} → k ≡ look_of b → nat_abs k.amo
 unfolding look_of
 look_small b {k} e = rw e (by (eqb (length b) record_size))
   where
-    by : (t : Bool) → nat_abs (pick t (record { unknown = unknown_code b; kind = kind_of b; misfit = misfit b; undated = undated b; day = date_in b; amount = amount_in b; mmo = is_mmo (part 46 118 b); permitted = all permitted b }) no_record).amount ≤ most_amount
+    by : (t : Bool) → nat_abs (pick t (record { kind = kind_of b; misfit = misfit b; undated = undated b; day = date_in b; amount = amount_in b; mmo = is_mmo (part 46 118 b); permitted = all permitted b }) no_record).amount ≤ most_amount
     by true = amount_small (part 91 104 b)
     by false = omega arith
 
@@ -77,18 +78,45 @@ balances_back x y g h = rw (back x g, back y h)
 pub after_record : (f : Form) (p : List ℕ) → not (same_bytes (take (length p - record_size) (drop record_size p)) (end_of f)) ≡ wrong_end record_size f p
 after_record f p = rw (take_all (length p - record_size) (drop record_size p) (rw length-drop (omega arith)))
 
-module _ (file b : List ℕ) (p : Progress) (k : Look) (t : Told b k) where
-  pub misplaced_is : misplaced_by p.size p.movement k.kind ≡ out_of_place (mode_of (flags_of file p)) (decode_record b)
-  misplaced_is = rw t.kind (place_is (flags_of file p) b)
+-- a record has a kind exactly if its code is known, and then it is what its code says
+pub kind_none : (b : List ℕ) → kind_of b ≡ None → unknown_code b ≡ true
+unfolding kind_of unknown_code
+kind_none b = by (is_code "01" b) (is_code "04" b) (is_code "05" b) (is_code "07" b) refl refl refl refl
+  where
+    by : (x y z w : Bool) → is_code "01" b ≡ x → is_code "04" b ≡ y → is_code "05" b ≡ z → is_code "07" b ≡ w → kind_of b ≡ None → unknown_code b ≡ true
+    by true y z w p q r s h = absurd (let e = rw p at h in cc)
+    by false true z w p q r s h = absurd (let e = rw (p, q) at h in cc)
+    by false false true w p q r s h = absurd (let e = rw (p, q, r) at h in cc)
+    by false false false true p q r s h = absurd (let e = rw (p, q, r, s) at h in cc)
+    by false false false false p q r s h = rw (p, q, r, s)
 
-  pub second_mmo_is : second_mmo_by p.size p.movement k.kind k.mmo ≡ second_mmo july2004 (mode_of (flags_of file p)) (decode_record b)
-  second_mmo_is = rw (t.kind, t.mmo) (second_is (flags_of file p) b)
+pub kind_some : (b : List ℕ) {k : Kind} → kind_of b ≡ Some k → unknown_code b ≡ false
+unfolding kind_of unknown_code
+kind_some b {k} = by (is_code "01" b) (is_code "04" b) (is_code "05" b) (is_code "07" b) refl refl refl refl
+  where
+    by : (x y z w : Bool) → is_code "01" b ≡ x → is_code "04" b ≡ y → is_code "05" b ≡ z → is_code "07" b ≡ w → kind_of b ≡ Some k → unknown_code b ≡ false
+    by true y z w p q r s h = rw p
+    by false true z w p q r s h = rw (p, q)
+    by false false true w p q r s h = rw (p, q, r)
+    by false false false true p q r s h = rw (p, q, r, s)
+    by false false false false p q r s h = absurd (let e = rw (p, q, r, s) at h in cc)
 
-  pub misdated_is : misdated_by p.size k.kind k.day p.old p.latest ≡ misdated (mode_of (flags_of file p)) (decode_record b)
-  misdated_is = rw (t.kind, t.day) (dates_is (flags_of file p) b)
+pub kind_stands : (b : List ℕ) {k c : Kind} → kind_of b ≡ Some k → k ≡ c → decode_record b ≡ stands c b
+kind_stands b h e = decoded b ∙ ap (λ x. stands x b) (ap (λ x. unwrap_or x Closing) h ∙ e)
 
-  pub unsummed_is : unsummed_by p.size k.kind (same_amount p.totals.balance k.amount) ≡ unsummed (mode_of (flags_of file p)) (decode_record b)
-  unsummed_is = rw (t.kind, t.amount) (sum_is (flags_of file p) b)
+module _ (file b : List ℕ) (p : Progress) (k : Look) (t : Told b k) (c : Kind) (h : kind_of b ≡ Some c) where
+  module _ {m n : ℕ} (x : m ≡ movement_of p.movement) (y : n ≡ code_of c) where
+    pub misplaced_is : misplaced_by p.size m n ≡ out_of_place (mode_of (flags_of file p)) (decode_record b)
+    misplaced_is = rw (x, y, kind_stands b h refl) (place_is (flags_of file p) b c)
+
+    pub second_mmo_is : second_mmo_by p.size m n k.mmo ≡ second_mmo july2004 (mode_of (flags_of file p)) (decode_record b)
+    second_mmo_is = rw (x, y, kind_stands b h refl, t.mmo) (second_is (flags_of file p) b c)
+
+    pub misdated_is : misdated_by p.size n k.day p.old p.latest ≡ misdated (mode_of (flags_of file p)) (decode_record b)
+    misdated_is = rw (y, kind_stands b h refl, t.day) (dates_is (flags_of file p) b c)
+
+    pub unsummed_is : unsummed_by p.size n (same_amount p.totals.balance k.amount) ≡ unsummed (mode_of (flags_of file p)) (decode_record b)
+    unsummed_is = rw (y, kind_stands b h refl, t.amount) (sum_is (flags_of file p) b c)
 
 -- a record compared with the one at a place of the file, as the code cuts it
 module _ (file b : List ℕ) (at : ℕ) (h : at + record_size ≤ length file) (m : length b ≡ record_size) where

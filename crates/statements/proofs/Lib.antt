@@ -2,6 +2,7 @@ pub mod Modes
 pub mod Taken
 pub mod Judging
 pub mod Loop
+pub mod Listed
 pub mod Framed
 pub mod Paper
 pub mod Numbers

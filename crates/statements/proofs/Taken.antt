@@ -5,14 +5,14 @@ use mathlib.Core.List.{List}
 use Prim.Native.Nat.{ℕ, ◌+◌, ◌≤◌, max}
 use native.Mathlib.Omega.{arith}
 use lib.Dec.{eqb}
+use Rattle.std.specs.Prelude.{unwrap_or}
 use lib.ListN.{length}
-use lib.IntN.{nat_abs, ◌+ℤ◌}
+use lib.IntN.{ℤ, nat_abs, ◌+ℤ◌}
 use borrow.Author.Tests.{eq-eqb, ne_eqb, leb-true}
 use Rattle.zones.specs.Class.{permitted, all}
 use Rattle.zones.specs.Choice.{pick}
 use Rattle.amounts.specs.Amounts.{most_amount, has_amount, amount_of}
-use Rattle.amounts.specs.declared.Amount.{Amount}
-use Rattle.amounts.specs.declared.Amount.TheVariants.{Value, NoAmount}
+use Rattle.std.specs.Prelude.{Option, Some, None}
 use Rattle.amounts.proofs.RoundTrip.{read_has}
 use Rattle.amounts.proofs.Whole.{abs_add}
 use Rattle.layouts.specs.Zone.{part, value_in}
@@ -20,14 +20,19 @@ use Rattle.grammar.specs.Answer.{Counts}
 use Rattle.grammar.specs.Record.{Rec, opening, movement, complement, closing}
 use Rattle.grammar.specs.Rules.{start, out_of_place, counted, next, taken}
 use Rattle.grammar.specs.Files.{Fine}
-use Rattle.records.specs.July.{record_size, july, july2004, unknown_code, is_mmo, misfit, undated, key_in, date_in, amount_in, posting_in, decode_record, encode_record, repeats}
-use Rattle.records.specs.Looks.{kind_of, look_of}
+use Rattle.records.specs.July.{record_size, july, july2004, is_mmo, misfit, undated, key_in, date_in, amount_in, posting_in, decode_record, encode_record, repeats}
+use Rattle.records.specs.Looks.{kind_of, judged_as, look_of}
+use Rattle.records.specs.Tests.{movement_of}
+use Rattle.records.specs.declared.Kind.{Kind}
+use Rattle.records.specs.declared.Kind.TheVariants.{Opening, Movement, Complement, Closing}
+use Rattle.records.specs.declared.rules.LastMovement.{LastMovement}
+use Rattle.records.specs.declared.rules.LastMovement.TheVariants.{WithMmo}
 use Rattle.records.specs.declared.Look.{Look}
 use Rattle.records.proofs.Lawful.{july_lawful}
 use Rattle.records.proofs.Canon.{front_kept}
 use Rattle.statements.specs.declared.Progress.{Progress}
-use Rattle.statements.specs.Progress.{begin, after_opening, after_movement, after_complement, after_closing, next_of, Flags, mode_of, record_at, flags_of, state_of, Small}
-use Rattle.statements.proofs.Modes.{View, one, four, five, seven, view}
+use Rattle.statements.specs.Progress.{begin, next_by, next_of, Flags, mode_of, record_at, flags_of, state_of, Small}
+use Rattle.statements.proofs.Modes.{stands, decoded}
 
 -- THE BOUNDS
 
@@ -36,16 +41,15 @@ pub amount_small : (z : List ℕ) → nat_abs (value_in (amount_of z)) ≤ most_
 unfolding has_amount
 amount_small z = by (amount_of z) refl
   where
-    by : (a : Amount) → amount_of z ≡ a → nat_abs (value_in a) ≤ most_amount
-    by (Value v) e = leb-true (nat_abs v) most_amount (read_has z v e)
-    by NoAmount e = omega arith
+    by : (a : Option ℤ) → amount_of z ≡ a → nat_abs (value_in a) ≤ most_amount
+    by (Some v) e = leb-true (nat_abs v) most_amount (read_has z v e)
+    by None e = omega arith
 
 -- after i records, the next one starting at a place
 pub record Bound (i at : ℕ) (p : Progress) : Type 0 where
   pub opening : p.opening ≤ at
   pub mark : p.mark ≤ at
   pub size : p.size ≤ i
-  pub movement : p.movement ≤ 2
   pub totals : Small i p.totals
 
 pub enough : {i j at to : ℕ} {p : Progress} → i ≤ j → at ≤ to → Bound i at p → Bound j to p
@@ -54,7 +58,6 @@ enough g h v =
       opening = omega (arith, v.opening);
       mark = omega (arith, v.mark);
       size = omega (arith, v.size);
-      movement = v.movement;
       totals =
           record {
             statements = omega (arith, v.totals.statements);
@@ -64,34 +67,27 @@ enough g h v =
           };
     }
 
-pick_two : (t : Bool) (m : ℕ) → m ≤ 2 → pick t 2 m ≤ 2
-pick_two true m h = omega arith
-pick_two false m h = h
-
 module _ (p : Progress) (at : ℕ) (k : Look) (s : nat_abs k.amount ≤ most_amount) where
   -- one record more
   pub next_bound : (i : ℕ) → Bound i at p → Bound (i + 1) at (next_of p at k)
-  unfolding next_of
-  next_bound i v = by (eqb k.kind 1) (eqb k.kind 4) (eqb k.kind 5)
+  next_bound i v = by (unwrap_or k.kind Closing)
     where
       w : Bound (i + 1) at p
       w = enough (omega arith) (omega arith) v
 
-      by : (x y z : Bool) → Bound (i + 1) at (pick x (after_opening p at k) (pick y (after_movement p at k) (pick z (after_complement p k) (after_closing p))))
-      by true y z =
+      by : (c : Kind) → Bound (i + 1) at (next_by c p at k)
+      by Opening =
           record {
             opening = omega arith;
             mark = w.mark;
             size = omega arith;
-            movement = omega arith;
             totals = record { statements = w.totals.statements; movements = w.totals.movements; complements = w.totals.complements; balance = omega (arith, s) };
           }
-      by false true z =
+      by Movement =
           record {
             opening = w.opening;
             mark = omega arith;
             size = omega (arith, v.size);
-            movement = omega arith;
             totals =
                 record {
                   statements = w.totals.statements;
@@ -100,20 +96,18 @@ module _ (p : Progress) (at : ℕ) (k : Look) (s : nat_abs k.amount ≤ most_amo
                   balance = omega (arith, s, v.totals.balance, abs_add p.totals.balance k.amount);
                 };
           }
-      by false false true =
+      by Complement =
           record {
             opening = w.opening;
             mark = w.mark;
             size = omega (arith, v.size);
-            movement = pick_two k.mmo p.movement v.movement;
             totals = record { statements = w.totals.statements; movements = w.totals.movements; complements = omega (arith, v.totals.complements); balance = w.totals.balance };
           }
-      by false false false =
+      by Closing =
           record {
             opening = w.opening;
             mark = w.mark;
             size = omega arith;
-            movement = omega arith;
             totals = record { statements = omega (arith, v.totals.statements); movements = w.totals.movements; complements = w.totals.complements; balance = w.totals.balance };
           }
 
@@ -124,7 +118,6 @@ begin_bound =
       opening = omega arith;
       mark = omega arith;
       size = omega arith;
-      movement = omega arith;
       totals = record { statements = omega arith; movements = omega arith; complements = omega arith; balance = omega arith };
     }
 
@@ -148,6 +141,10 @@ clash : {t : Bool} → t ≡ true → t ≡ false → ⊥
 clash g h = let z : ◌≡◌ {A = ℕ} 0 1 = cc in omega arith
 
 -- an MMO seen or not, as a number
+seen_number : (t : Bool) (m : LastMovement) → movement_of (pick t WithMmo m) ≡ pick t 2 (movement_of m)
+seen_number true m = refl
+seen_number false m = refl
+
 seen_in : (t : Bool) (m : ℕ) → eqb m 0 ≡ false → (eqb (pick t 2 m) 0 ≡ false) × (eqb (pick t 2 m) 2 ≡ (eqb m 2 || t))
 seen_in true m h = (refl, go (eqb m 2))
   where
@@ -206,19 +203,18 @@ unfolding repeats
 repeats_own b l f e = ap (part 3 40) (sym (ap encode_record e) ∙ july_lawful.again b l f) ∙ front_kept b l 3 40 (omega arith) (omega arith) (omega arith)
 
 module _ {at : ℕ} {file b : List ℕ} {p : Progress} {k : Look} (g : Good at file b p k) where
-  whole : look_of b ≡ record { unknown = unknown_code b; kind = kind_of b; misfit = misfit b; undated = undated b; day = date_in b; amount = amount_in b; mmo = is_mmo (part 46 118 b); permitted = all permitted b }
+  whole : look_of b ≡ record { kind = kind_of b; misfit = misfit b; undated = undated b; day = date_in b; amount = amount_in b; mmo = is_mmo (part 46 118 b); permitted = all permitted b }
   unfolding look_of
   whole = rw (eq-eqb (length b) record_size g.wide)
 
   next_follows : Follows file b p (next_of p at k)
-  unfolding next_of
-  next_follows = by (view b)
+  next_follows = by (judged_as b) refl (decoded b)
     where
-      by : View b → Follows file b p (next_of p at k)
-      by (one q e) = record { flags = rw (g.look, whole, q, e, g.there); counts = rw (g.look, whole, q, e) }
-      by (four q e) = record { flags = rw (g.look, whole, q, e, g.there, repeats_own b g.wide g.fine e); counts = rw (g.look, whole, q, e) }
-      by (five q e) = record { flags = rw (g.look, whole, q, e); counts = rw (g.look, whole, q, e) }
-      by (seven q e) = record { flags = rw (g.look, whole, q, e); counts = rw (g.look, whole, q, e) }
+      by : (c : Kind) → judged_as b ≡ c → decode_record b ≡ stands c b → Follows file b p (next_of p at k)
+      by Opening q e = record { flags = rw (g.look, whole, q, e, g.there); counts = rw (g.look, whole, q, e) }
+      by Movement q e = record { flags = rw (g.look, whole, q, e, g.there, repeats_own b g.wide g.fine e); counts = rw (g.look, whole, q, e) }
+      by Complement q e = record { flags = rw (g.look, whole, q, e, seen_number (is_mmo (part 46 118 b)) p.movement); counts = rw (g.look, whole, q, e) }
+      by Closing q e = record { flags = rw (g.look, whole, q, e); counts = rw (g.look, whole, q, e) }
 
   pub next_state : state_of file (next_of p at k) ≡ taken july2004 (state_of file p) (decode_record b)
   next_state =

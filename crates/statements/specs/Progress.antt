@@ -1,5 +1,5 @@
 -- What the code keeps between two records, and the state of the definitions that it stands for.
-use Rattle.std.specs.Prelude.{◌≡◌, false, List, ℕ, ◌+◌, ◌*◌, ◌≤◌, max, eqb, take, drop, ℤ, pos, nat_abs, ◌+ℤ◌}
+use Rattle.std.specs.Prelude.{◌≡◌, false, List, ℕ, ◌+◌, ◌*◌, ◌≤◌, max, eqb, take, drop, ℤ, pos, nat_abs, ◌+ℤ◌, unwrap_or}
 use Rattle.std.proofs.Math.Option.{Option, none, some}
 use Rattle.zones.specs.Choice.{pick}
 use Rattle.amounts.specs.Amounts.{most_amount}
@@ -9,7 +9,11 @@ use Rattle.framing.specs.Files.{line_end, unknown_end}
 use Rattle.grammar.specs.declared.Key.{Key}
 use Rattle.grammar.specs.Rules.{Open, Current, Mode, out, within, State}
 use Rattle.records.specs.July.{record_size, most_in_file, key_in}
+use Rattle.records.specs.Tests.{movement_of}
+use Rattle.records.specs.declared.Kind.{Kind}
+use Rattle.records.specs.declared.Kind.TheVariants.{Opening, Movement, Complement, Closing}
 use Rattle.records.specs.declared.Look.{Look}
+use Rattle.records.specs.declared.rules.LastMovement.TheVariants.{Absent, Plain, WithMmo}
 use Rattle.statements.specs.declared.Totals.{Totals}
 use Rattle.statements.specs.declared.Progress.{Progress}
 
@@ -36,7 +40,7 @@ begin =
       opening = 0;
       mark = 0;
       size = 0;
-      movement = 0;
+      movement = Absent;
       old = 0;
       latest = 0;
       totals = record { statements = 0; movements = 0; complements = 0; balance = pos 0 };
@@ -49,7 +53,7 @@ after_opening p at k =
       opening = at;
       mark = p.mark;
       size = 1;
-      movement = 0;
+      movement = Absent;
       old = k.day;
       latest = k.day;
       totals = opened_of p.totals k.amount;
@@ -61,7 +65,7 @@ after_movement p at k =
       opening = p.opening;
       mark = at;
       size = p.size + 1;
-      movement = 1;
+      movement = Plain;
       old = p.old;
       latest = max p.latest k.day;
       totals = moved_of p.totals k.amount;
@@ -73,7 +77,7 @@ after_complement p k =
       opening = p.opening;
       mark = p.mark;
       size = p.size + 1;
-      movement = pick k.mmo 2 p.movement;
+      movement = pick k.mmo WithMmo p.movement;
       old = p.old;
       latest = p.latest;
       totals = added_of p.totals;
@@ -85,17 +89,20 @@ after_closing p =
       opening = p.opening;
       mark = p.mark;
       size = 0;
-      movement = 0;
+      movement = Absent;
       old = p.old;
       latest = p.latest;
       totals = closed_of p.totals;
     }
 
-unfoldable pub next_of : Progress → ℕ → Look → Progress
-next_of p at k =
-    pick (eqb k.kind 1) (after_opening p at k)
-    (pick (eqb k.kind 4) (after_movement p at k)
-    (pick (eqb k.kind 5) (after_complement p k) (after_closing p)))
+abbrev pub next_by : Kind → Progress → ℕ → Look → Progress
+next_by Opening p at k = after_opening p at k
+next_by Movement p at k = after_movement p at k
+next_by Complement p at k = after_complement p k
+next_by Closing p at k = after_closing p
+
+abbrev pub next_of : Progress → ℕ → Look → Progress
+next_of p at k = next_by (unwrap_or k.kind Closing) p at k
 
 -- the mode as numbers and the bytes that they point to
 pub record Flags : Type 0 where
@@ -124,7 +131,7 @@ abbrev pub flags_of : List ℕ → Progress → Flags
 flags_of file p =
     record {
       size = p.size;
-      movement = p.movement;
+      movement = movement_of p.movement;
       key = key_in (record_at file p.opening);
       repeated = part 3 40 (record_at file p.mark);
       old = p.old;

@@ -1,3 +1,4 @@
 pub mod Filled
 pub mod Reading
+pub mod Paper
 pub mod One

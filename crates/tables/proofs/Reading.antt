@@ -1,14 +1,19 @@
 -- The rows that the code reads from a statement's first 04 on are the statement's movements.
-use mathlib.Core.Path.{◌≡◌, sym, ap, ◌∙◌}
+use mathlib.Core.Path.{◌≡◌, refl, sym, ap, ◌∙◌}
 use mathlib.Core.List.{List, ◌∷◌}
+use Rattle.std.specs.Prelude.{Option, None, Some, Ok, Err}
+use Rattle.std.specs.Option.{unwrap_or}
 use Prim.Native.Nat.{ℕ, zero, suc, ◌+◌, ◌-◌, ◌*◌, ◌<◌, ◌≤◌}
 use native.Mathlib.Numerals.{add-one}
 use native.Mathlib.Omega.{arith}
-use lib.ListN.{length, drop, get_or}
+use lib.ListN.{length, take, drop, get_or}
 use lib.Seq.{drop-cons, drop-length}
 use borrow.Author.Tests.{lt-ltb, le-ltb}
 use Rattle.framing.specs.declared.Form.{Form}
 use Rattle.framing.specs.Files.{line_end, width_of}
+use Rattle.framing.specs.Refusals.{refusal_by}
+use Rattle.framing.specs.declared.refusals.Reason.TheVariants.{ShortTable}
+use Rattle.framing.specs.declared.refusals.Refusal.{Refusal}
 use Rattle.grammar.specs.Record.{Rec, movement, closing}
 use Rattle.grammar.specs.Statements as values
 use Rattle.grammar.specs.Statements.{Statement, all_records}
@@ -16,29 +21,26 @@ use Rattle.grammar.specs.Files.{Reads, statements_of, check_of}
 use Rattle.grammar.specs.Parts.{no_statement}
 use Rattle.grammar.proofs.Rows.{adds_then, moves_then}
 use Rattle.records.specs.July.{record_size, repeats, coding_of, edition_of}
-use Rattle.fields.specs.Rows.{row_of, row_at_of}
-use Rattle.fields.specs.declared.Movement.{Movement}
-use Rattle.readers.specs.declared.Step.{Step}
-use Rattle.readers.specs.Steps.{step_of}
-use Rattle.readers.specs.declared.Place.TheVariants.{At, Refused}
+use Rattle.fields.specs.Rows.{row_of}
+use Rattle.readers.specs.declared.Place.{Place}
 use Rattle.readers.specs.Places.{place_of}
+use Rattle.readers.specs.Steps.{next_of, complements_of}
+use Rattle.readers.specs.declared.Step.{Step}
 use Rattle.readers.proofs.Movements.{before, rest, movement_there}
-use Rattle.readers.proofs.Placed.{part_inside}
 use Rattle.contents.specs.Heads.{record_at_of, movements_in}
 use Rattle.contents.specs.Movements.{no_movement}
 use Rattle.contents.proofs.Records.{record_there}
 use Rattle.contents.proofs.Heading.{count_there}
-use Rattle.contents.proofs.Moving.{row_held, start, cut_reads}
+use Rattle.contents.proofs.Moving.{single_end, single_part, row_held, start, cut_reads}
 use Rattle.tables.specs.declared.Plan.{Plan}
 use Rattle.tables.specs.declared.RowStep.{RowStep}
 use Rattle.tables.specs.Tables.{rows_of, laid, table_answer_of, table_of}
-use Rattle.tables.specs.Steps.{row_step_of, rows_from, no_rows, between, Planned}
+use Rattle.tables.specs.Steps.{row_step_of, rows_from, Filling, Refusing}
 
--- the step that the code puts together
-pub gathered : (b : List ℕ) (f : Form) (at : ℕ) {s : Step} {o : List ℕ} {x : Movement} → s ≡ step_of b f at → o ≡ record_at_of b at → x ≡ row_at_of o s.complements
-    → ◌≡◌ {A = RowStep} (record { row = x; next = s.next }) (row_step_of b f at)
-unfolding row_step_of
-gathered b f at e p q = rw (q, p, e)
+-- the step that the code takes: at the part's end, with no complement, where there is none
+pub stepped : (o : Option Step) (n : ℕ) → unwrap_or o (record { complements = 0; next = n }) ≡ record { complements = complements_of o; next = next_of n o }
+stepped None n = refl
+stepped (Some s) n = refl
 
 module _ {f : Form} {b : List ℕ} {ss : List Statement} (r : Reads (coding_of f) f b ss) (j : ℕ) (h : j < length ss) where
   abbrev ms : List values.Movement
@@ -81,12 +83,12 @@ module _ {f : Form} {b : List ℕ} {ss : List Statement} (r : Reads (coding_of f
       rw (step_there i l, drop-cons ms i no_movement l) (ap (λ rs. row_of (at i).posting (length (at i).complements) ∷ rs) q)
 
 -- the part of statement k
-module _ (f : Form) (b : List ℕ) (k : ℕ) {x n : ℕ} (e : At x n ≡ place_of f b k) where
+module _ (f : Form) (b : List ℕ) (k : ℕ) {place : Place} (e : Ok place ≡ place_of f b k) where
   abbrev s : Statement
   s = get_or (statements_of (coding_of f) f b) (k - 1) no_statement
 
   abbrev cut : List ℕ
-  cut = between x (x + n) b
+  cut = take (place.first + place.len - place.first) (drop place.first b)
 
   -- its first 04 stands behind its 01
   rows_are : {m : ℕ} → m ≡ length s.movements → rows_from cut f (record_size + line_end f) m ≡ rows_of s.movements
@@ -99,33 +101,29 @@ module _ (f : Form) (b : List ℕ) (k : ℕ) {x n : ℕ} (e : At x n ≡ place_o
     many = q ∙ count_there (cut_reads f b k e)
 
     -- the rows are filled
-    pub planned_rows : m ≤ table
-        → Planned f b k table (record { answer = record { number = 0; «record» = 0; movements = m }; first = x; end = x + n; at = record_size + line_end f; rows = m })
+    pub planned_rows : {p : Plan} → p.part.now ≡ cut → p.at ≡ record_size + line_end f → p.rows ≡ m → m ≤ table → Filling f b k table p
     unfolding table_answer_of table_of
-    planned_rows l =
+    planned_rows u v w l =
         record {
-          answer = sym (rw (← e, ← many, le-ltb table m l));
-          inside = l;
-          ordered = omega arith;
-          ends = part_inside f b k e;
-          content = λ t g. ap (λ rs. laid rs t) (rows_are many) ∙ sym (rw (← e, g, ← many, le-ltb table m l));
+          inside = rw w l;
+          answer = sym (rw (w, ← e, ← many, le-ltb table m l));
+          content = λ t g. rw (u, v, w) (ap (λ rs. laid rs t) (rows_are many) ∙ sym (rw (← e, g, ← many, le-ltb table m l)));
         }
 
     -- 18
-    pub planned_short : {p : Plan} → table < m → p ≡ no_rows 18 0 → Planned f b k table p
-    unfolding table_answer_of table_of rows_from
-    planned_short l z =
-        rw z
-        (record {
+    pub planned_short : table < m → Refusing f b k table (refusal_by ShortTable 0)
+    unfolding table_answer_of table_of
+    planned_short l =
+        record {
           answer = sym (rw (← e, ← many, lt-ltb table m l));
-          inside = omega arith;
-          ordered = omega arith;
-          ends = omega arith;
           content = λ t g. sym (rw (← e, g, ← many, lt-ltb table m l));
-        })
+        }
+
+-- its line ends are those of a form
+pub ends_small : (f : Form) (b : List ℕ) (k : ℕ) (p : Place) → Ok p ≡ place_of f b k → line_end f ≤ 2
+ends_small f b k p e = single_end (single_part f b k e)
 
 -- the file's refusals, and 16
-pub planned_none : (f : Form) (b : List ℕ) (k table : ℕ) {n r : ℕ} {p : Plan} → Refused n r ≡ place_of f b k → p ≡ no_rows n r → Planned f b k table p
-unfolding table_answer_of table_of rows_from
-planned_none f b k table e z =
-    rw z (record { answer = sym (rw (← e)); inside = omega arith; ordered = omega arith; ends = omega arith; content = λ t g. sym (rw (← e)) })
+pub planned_none : (f : Form) (b : List ℕ) (k table : ℕ) {e : Refusal} → Err e ≡ place_of f b k → Refusing f b k table e
+unfolding table_answer_of table_of
+planned_none f b k table e = record { answer = sym (rw (← e)); content = λ t g. sym (rw (← e)) }

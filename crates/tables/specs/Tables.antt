@@ -1,7 +1,10 @@
 -- The movements of a statement as rows of a lent table.
-use Rattle.std.specs.Prelude.{List, [], ◌∷◌, ◌++◌, ℕ, ◌-◌, ltb, length, drop, get_or}
+use Rattle.std.specs.Prelude.{Result, Ok, Err, List, [], ◌∷◌, ◌++◌, ℕ, ◌-◌, ltb, length, drop, get_or}
 use Rattle.zones.specs.Choice.{pick}
 use Rattle.framing.specs.declared.Form.{Form}
+use Rattle.framing.specs.Refusals.{refusal_by}
+use Rattle.framing.specs.declared.refusals.Reason.TheVariants.{ShortTable}
+use Rattle.framing.specs.declared.refusals.Refusal.{Refusal}
 use Rattle.grammar.specs.Statements as values
 use Rattle.grammar.specs.Statements.{Statement}
 use Rattle.grammar.specs.Files.{statements_of}
@@ -11,8 +14,6 @@ use Rattle.fields.specs.Rows.{row_of}
 use Rattle.fields.specs.declared.Movement.{Movement}
 use Rattle.readers.specs.Places.{place_of}
 use Rattle.readers.specs.declared.Place.{Place}
-use Rattle.readers.specs.declared.Place.TheVariants.{At, Refused}
-use Rattle.tables.specs.declared.TableAnswer.{TableAnswer}
 
 -- a statement's movements as rows, in file order
 unfoldable pub rows_of : List values.Movement → List Movement
@@ -23,22 +24,18 @@ rows_of (m ∷ ms) = row_of m.posting (length m.complements) ∷ rows_of ms
 abbrev pub laid : (rows table : List Movement) → List Movement
 laid rows t = rows ++ drop (length rows) t
 
-abbrev pub refused_table : (n r : ℕ) → TableAnswer
-refused_table n r = record { number = n; «record» = r; movements = 0 }
-
 -- the file's refusals, then 16, then 18: lent table too short
-abbrev pub answer_by : Place → Statement → (table : ℕ) → TableAnswer
-answer_by (At first len) s n =
-    pick (ltb n (length s.movements)) (refused_table 18 0) (record { number = 0; «record» = 0; movements = length s.movements })
-answer_by (Refused number at) s n = refused_table number at
+abbrev pub answer_by : Result Place Refusal → Statement → (table : ℕ) → Result ℕ Refusal
+answer_by (Ok p) s n = pick (ltb n (length s.movements)) (Err (refusal_by ShortTable 0)) (Ok (length s.movements))
+answer_by (Err e) s n = Err e
 
 -- on refusal no row changes
-abbrev pub table_by : Place → Statement → List Movement → List Movement
-table_by (At first len) s t = pick (ltb (length t) (length s.movements)) t (laid (rows_of s.movements) t)
-table_by (Refused number at) s t = t
+abbrev pub table_by : Result Place Refusal → Statement → List Movement → List Movement
+table_by (Ok p) s t = pick (ltb (length t) (length s.movements)) t (laid (rows_of s.movements) t)
+table_by (Err e) s t = t
 
--- the answer for statement k and a table of so many rows, and what the table then holds
-unfoldable pub table_answer_of : Form → List ℕ → (k table : ℕ) → TableAnswer
+-- the number of movements of statement k for a table of so many rows, or the refusal; and what the table then holds
+unfoldable pub table_answer_of : Form → List ℕ → (k table : ℕ) → Result ℕ Refusal
 table_answer_of f b k n = answer_by (place_of f b k) (get_or (statements_of (coding_of f) f b) (k - 1) no_statement) n
 
 unfoldable pub table_of : Form → List ℕ → ℕ → List Movement → List Movement

@@ -1,24 +1,15 @@
-// The movements of a statement in a lent table: few thin functions over a covered one that reads a single 04.
+// The movements of a statement in a lent table: what fills it is planned first, then each 04 is read into its row.
 #![tactic(auto)]
 
 ghost use Rattle.std.specs.Prelude.{◌≡◌, ◌≤◌, length};
 ghost use Rattle.tables.specs.Tables.{laid};
-ghost use Rattle.tables.specs.Steps.{row_step_of, rows_from, no_rows, between, Planned};
+ghost use Rattle.tables.specs.Steps.{row_step_of, rows_from, Planned};
 ghost use Rattle.tables.specs.Answers.{Movements};
 
 use fields::Movement;
-use framing::Form;
-use readers::Place;
+use framing::{Form, Reason, Refusal};
+use readers::Step;
 use records::RECORD;
-
-// The number of movements, which is that of the rows filled; or, with a refusal's number and record, 0.
-#[repr(C)]
-#[derive(Clone, Copy)]
-pub struct TableAnswer {
-    pub number: u64,
-    pub record: u64,
-    pub movements: u64,
-}
 
 // A movement's row, and the place after its last 05.
 #[derive(Clone, Copy)]
@@ -27,98 +18,66 @@ struct RowStep {
     next: usize,
 }
 
-// The answer, the statement's part of the file, the place of its first 04 in the part, and how many rows to fill: none on refusal.
+// What fills a table: the statement's part of the file, the place of its first 04 there, and how many rows.
 #[derive(Clone, Copy)]
-struct Plan {
-    answer: TableAnswer,
-    first: usize,
-    end: usize,
+struct Plan<'a> {
+    part: &'a [u8],
     at: usize,
     rows: usize,
 }
 
 // The row of the movement at a place of a part, and the place after it.
+#[tactic(auto, using(crate::proofs::Reading::stepped), unfolding(crate::specs::Steps::row_step_of))]
 fn row_step(part: &[u8], form: Form, at: usize) -> RowStep
     ensures { result ≡ row_step_of part.now form at }
 {
-    let step = readers::movement_step(part, form, at);
+    let none = Step {
+        complements: 0,
+        next: part.len(),
+    };
+    let step = readers::movement_step(part, form, at).unwrap_or(none);
     RowStep {
         row: fields::row_at(contents::record_at(part, at), step.complements),
         next: step.next,
     }
 }
 
-fn no_rows(number: u64, at: u64) -> Plan
-    ensures { result ≡ no_rows number at }
-{
-    Plan {
-        answer: TableAnswer {
-            number,
-            record: at,
-            movements: 0,
-        },
-        first: 0,
-        end: 0,
-        at: 0,
-        rows: 0,
-    }
-}
-
-// The answer for a table of so many rows, and what is to be filled. The whole file is judged first.
-fn plan_of(form: Form, file: &[u8], k: u64, table: usize) -> Plan
+// What fills a table of so many rows. The whole file is judged first.
+#[tactic(auto, using(readers::proofs::Placed::part_inside, crate::proofs::Reading::planned_none, crate::proofs::Reading::ends_small))]
+fn plan_of(form: Form, file: &[u8], k: u64, table: usize) -> Result<Plan<'_>, Refusal>
     ensures { Planned form file.now k table result }
 {
-    match readers::statement_place(form, file, k) {
-        Place::At { first, len } => {
-            let end = first + len;
-            let n = contents::movements_in(form, &file[first..end]);
-            if (table as u64) < n {
-                return no_rows(18, 0);
-            }
-            Plan {
-                answer: TableAnswer {
-                    number: 0,
-                    record: 0,
-                    movements: n,
-                },
-                first,
-                end,
-                at: RECORD + form.line_end as usize,
-                rows: n as usize,
-            }
-        }
-        Place::Refused { number, record } => no_rows(number, record),
+    let place = readers::statement_place(form, file, k)?;
+    let part = &file[place.first..place.first + place.len];
+    let n = contents::movements_in(form, part);
+    if (table as u64) < n {
+        return Err(Reason::ShortTable.at(0));
+    }
+    Ok(Plan {
+        part,
+        at: RECORD + form.line_end as usize,
+        rows: n as usize,
+    })
+}
+
+// Rows from the first on become the plan's movements.
+fn fill(table: &mut [Movement], form: Form, plan: Plan<'_>)
+    requires { plan.rows ≤ length table.old }
+    ensures { table.new ≡ laid (rows_from plan.entry.part.now form plan.entry.at plan.entry.rows) table.old }
+{
+    let mut p = plan.at;
+    for row in &mut table[..plan.rows] {
+        let step = row_step(plan.part, form, p);
+        *row = step.row;
+        p = step.next;
     }
 }
 
-// Rows from the first on become the n movements from a place of the part on.
-fn fill(table: &mut [Movement], part: &[u8], form: Form, at: usize, n: usize)
-    requires { n ≤ length table.old }
-    ensures { table.new ≡ laid (rows_from part.now form at n) table.old }
-{
-    let mut i = 0;
-    let mut p = at;
-    while i < n {
-        let r = row_step(part, form, p);
-        table[i] = r.row;
-        p = r.next;
-        i += 1;
-    }
-}
-
-// The part of a file between two places.
-fn part_of(file: &[u8], first: usize, end: usize) -> &[u8]
-    requires { (first ≤ end) × (end ≤ length file.now) }
-    ensures { result.now ≡ between first end file.now }
-{
-    &file[first..end]
-}
-
-// The movements of statement k, in the rows of a lent table. On refusal no row changes.
-pub fn movements(form: Form, file: &[u8], k: u64, table: &mut [Movement]) -> TableAnswer
+// The movements of statement k, in the first rows of a lent table: how many. On refusal no row changes.
+pub fn movements(form: Form, file: &[u8], k: u64, table: &mut [Movement]) -> Result<u64, Refusal>
     ensures { Movements form file.now k table.old result table.new }
 {
-    let p = plan_of(form, file, k, table.len());
-    fill(table, part_of(file, p.first, p.end), form, p.at, p.rows);
-    p.answer
+    let plan = plan_of(form, file, k, table.len())?;
+    fill(table, form, plan);
+    Ok(plan.rows as u64)
 }

@@ -1,6 +1,6 @@
 -- The test of values is passed exactly by those that some accepted file reads as.
-use mathlib.Core.Path.{◌≡◌, refl, sym, ap, ◌∙◌}
-use mathlib.Core.Bool.{true, ◌&&◌}
+use mathlib.Core.Path.{◌≡◌, sym, ◌∙◌}
+use mathlib.Core.Bool.{true}
 use mathlib.Core.List.{List, [], ◌∷◌, map}
 use Prim.Native.Nat.{ℕ, ◌+◌, ◌*◌, ◌≤◌}
 use native.Mathlib.Omega.{arith}
@@ -15,7 +15,7 @@ use Rattle.framing.specs.Files.{All, chunks}
 use Rattle.grammar.specs.declared.Key.{Key}
 use Rattle.grammar.specs.Record.{complement}
 use Rattle.grammar.specs.Statements as values
-use Rattle.grammar.specs.Statements.{plus, sizes, ValidMovement, Valid, records_of_movement, records_of_movements, records_of}
+use Rattle.grammar.specs.Statements.{sizes, ValidMovement, Valid, records_of_movement, records_of_movements, records_of}
 use Rattle.grammar.proofs.Parts.{length_one}
 use Rattle.grammar.proofs.Tests.{same_amount_true, same_amount_self}
 use Rattle.records.specs.July.{text_size, most_in_statement, repeats, Holds, july2004}
@@ -23,11 +23,10 @@ use Rattle.fields.specs.declared.Movement.{Movement}
 use Rattle.contents.specs.declared.Head.{Head}
 use Rattle.writing.specs.Written.{posting_of, key_holds, balance_holds, text_holds}
 use Rattle.writing.proofs.Held.{opening_holds, closing_holds, movement_holds_lem, text_held, complement_held}
-use Rattle.writer.specs.declared.Tally.{Tally}
 use Rattle.writer.specs.Values.{movements_from, statement_from, counted_in, Carried}
-use Rattle.writer.specs.Test.{begun, tallied, completed, carries}
+use Rattle.writer.specs.Test.{completed, carries}
 use Rattle.writer.proofs.Alls.{all_append, all_left, all_right, all_map, all_unmap}
-use Rattle.writer.proofs.Rows.{FineRows, run, passes}
+use Rattle.writer.proofs.Rows.{FineRows, after, first, passed, begins_first, passes}
 
 -- the records of some movements can all be written
 abbrev Held : Key → List values.Movement → Type 0
@@ -84,44 +83,37 @@ module _ (h : Head) where
 
   -- THE TEST: what it says of the values
   pub carried : (rows : List Movement) (cs : List ℕ) → carries h rows cs ≡ true → Carried h rows cs
-  unfolding carries completed begun records_of
+  unfolding records_of
   carried rows cs e =
-      let s = tallied h (begun h) rows cs in
-      let l = and_left (s.fits && leb s.records most_in_statement) _ e in
-      let r = and_right (s.fits && leb s.records most_in_statement) _ e in
-      let u = run h (begun h) rows cs (and_left s.fits _ l) in
+      let u = passed h rows cs e in
       let ms = movements_from rows cs in
-      let a : balance_holds h.key h.old_date h.old_balance ≡ true = and_left (balance_holds h.key h.old_date h.old_balance) _ u.fits in
-      let b = and_right (balance_holds h.key h.old_date h.old_balance) _ u.fits in
-      let c : balance_holds h.key h.new_date h.new_balance ≡ true = and_left (balance_holds h.key h.new_date h.new_balance) _ b in
-      let n : s.records ≡ 2 + sizes ms = ap (λ (t : Tally). t.records) u.end in
-      let f : s.from ≡ 0 + counted_in rows * text_size = ap (λ (t : Tally). t.from) u.end in
-      let g : s.balance ≡ plus h.old_balance ms = ap (λ (t : Tally). t.balance) u.end in
-      let k = leb-true s.records most_in_statement (and_right s.fits _ l) in
+      let s = after (first h) rows cs in
+      let r = and_right (leb s.records most_in_statement) _ u.complete in
+      let k = leb-true s.records most_in_statement (and_left (leb s.records most_in_statement) _ u.complete) in
       let z = eqb-true s.from (length cs) (and_left (eqb s.from (length cs)) _ r) in
       let v : Valid july2004 (statement_from h rows cs) =
       record {
-        dates = leb-true h.old_date h.new_date (and_right (balance_holds h.key h.new_date h.new_balance) _ b);
+        dates = u.dates;
         movements = fine_within rows cs u.fine;
-        sum = sym g ∙ same_amount_true s.balance h.new_balance (and_right (eqb s.from (length cs)) _ r);
-        short = omega (arith, n, k);
+        sum = same_amount_true s.balance h.new_balance (and_right (eqb s.from (length cs)) _ r);
+        short = omega (arith, k);
       } in
       record {
-        whole = omega (arith, f, z);
+        whole = omega (arith, z);
         writable =
             record {
               valid = v;
               ok = (
-                sym (opening_holds h.key h.old_date h.old_balance) ∙ a,
-                all_append Holds (records_of_movements july2004 h.key ms) _ (fine_held rows cs u.fine) (sym (closing_holds h.key h.new_date h.new_balance) ∙ c, tt),
+                sym (opening_holds h.key h.old_date h.old_balance) ∙ u.old,
+                all_append Holds (records_of_movements july2004 h.key ms) _ (fine_held rows cs u.fine) (sym (closing_holds h.key h.new_date h.new_balance) ∙ u.new, tt),
               );
-              few = omega (arith, length_one july2004 (statement_from h rows cs), n, k);
+              few = omega (arith, length_one july2004 (statement_from h rows cs), k);
             };
       }
 
   -- and that no such values fail it
   pub carries_all : (rows : List Movement) (cs : List ℕ) → Carried h rows cs → carries h rows cs ≡ true
-  unfolding carries completed begun records_of
+  unfolding carries completed records_of
   carries_all rows cs c =
       let ms = movements_from rows cs in
       let w = c.writable in
@@ -131,9 +123,8 @@ module _ (h : Head) where
       let b : balance_holds h.key h.new_date h.new_balance ≡ true = closing_holds h.key h.new_date h.new_balance ∙ z.0 in
       let f = held_fine rows cs (all_left Holds (records_of_movements july2004 h.key ms) _ o.1) w.valid.movements in
       let i : nat_abs h.old_balance ≤ most_amount = balance_small h.key h.old_date h.old_balance a in
-      let g : (begun h).fits ≡ true = both a (both b (le-leb h.old_date h.new_date w.valid.dates)) in
-      let p = passes h (begun h) rows cs g f (omega (arith, w.valid.short)) (omega (arith, c.whole)) (record { balance = omega (arith, i) }) in
-      let u = run h (begun h) rows cs p in
-      rw u.end
-      (both (both refl (le-leb (2 + sizes ms) most_in_statement (omega (arith, w.valid.short))))
+      let g = begins_first h (both a (both b (le-leb h.old_date h.new_date w.valid.dates))) in
+      let p = passes h (first h) rows cs f (omega (arith, w.valid.short)) (omega (arith, c.whole)) (record { balance = omega (arith, i) }) in
+      rw (g, p)
+      (both (le-leb (2 + sizes ms) most_in_statement (omega (arith, w.valid.short)))
       (both (eq-eqb (0 + counted_in rows * text_size) (length cs) (omega (arith, c.whole))) (rw w.valid.sum (same_amount_self h.new_balance))))

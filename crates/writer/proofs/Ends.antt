@@ -34,10 +34,6 @@ pub bounds : (bytes n : ℕ) → (leb (2 * record_size) bytes && leb bytes n) �
 bounds bytes n e = (leb-true (2 * record_size) bytes (and_left (leb (2 * record_size) bytes) _ e), leb-true bytes n (and_right (leb (2 * record_size) bytes) _ e))
 
 module _ (bytes : ℕ) (h : Head) (out : List ℕ) where
-  pub no_ends : (leb (2 * record_size) bytes && leb bytes (length out)) ≡ false → out ≡ ends_put bytes h out
-  unfolding ends_put
-  no_ends e = sym (rw e)
-
   module _ (e : (leb (2 * record_size) bytes && leb bytes (length out)) ≡ true) where
     some : 2 * record_size ≤ bytes
     some = (bounds bytes (length out) e).0

@@ -1,5 +1,6 @@
 -- The rows from one on: the next one, or none. Past the last row a table is read as d.
-use mathlib.Core.Path.{◌≡◌, ap}
+use mathlib.Core.Path.{◌≡◌, refl, ap, ◌∙◌}
+use Rattle.std.specs.Prelude.{Some, None}
 use mathlib.Core.List.{List, ◌∷◌}
 use Prim.Native.Nat.{ℕ, ◌+◌, ◌<◌, ◌≤◌}
 use native.Mathlib.Numerals.{add-one}
@@ -17,13 +18,21 @@ next_row : (ts : List Movement) (k : ℕ) (d : Movement) → k < length ts → d
 next_row ts k d l = rw (add-one k) (drop-cons ts k d l)
 
 pub tally_step : (h : Head) (s : Tally) (ts : List Movement) (cs : List ℕ) (k : ℕ) (d : Movement) → k < length ts
-    → tallied h s (drop k ts) cs ≡ tallied h (tally_of h s (get_or ts k d) cs) (drop (k + 1) ts) cs
+    → tallied h (Some s) (drop k ts) cs ≡ tallied h (tally_of h s (get_or ts k d) cs) (drop (k + 1) ts) cs
 unfolding tallied
-tally_step h s ts cs k d l = ap (λ (rows : List Movement). tallied h s rows cs) (next_row ts k d l)
+tally_step h s ts cs k d l = ap (λ (rows : List Movement). tallied h (Some s) rows cs) (next_row ts k d l)
 
-pub tally_over : (h : Head) (s : Tally) (ts : List Movement) (cs : List ℕ) (k : ℕ) → length ts ≤ k → tallied h s (drop k ts) cs ≡ s
+pub tally_over : (h : Head) (s : Tally) (ts : List Movement) (cs : List ℕ) (k : ℕ) → length ts ≤ k → tallied h (Some s) (drop k ts) cs ≡ Some s
 unfolding tallied
-tally_over h s ts cs k l = ap (λ (rows : List Movement). tallied h s rows cs) (drop_of_length-le ts l)
+tally_over h s ts cs k l = ap (λ (rows : List Movement). tallied h (Some s) rows cs) (drop_of_length-le ts l)
+
+pub tally_none : (h : Head) (rows : List Movement) (cs : List ℕ) → tallied h None rows cs ≡ None
+unfolding tallied
+tally_none h rows cs = refl
+
+pub tally_stop : (h : Head) (s : Tally) (ts : List Movement) (cs : List ℕ) (k : ℕ) (d : Movement) → k < length ts → tally_of h s (get_or ts k d) cs ≡ None
+    → tallied h (Some s) (drop k ts) cs ≡ None
+tally_stop h s ts cs k d l e = tally_step h s ts cs k d l ∙ ap (λ u. tallied h u (drop (k + 1) ts) cs) e ∙ tally_none h (drop (k + 1) ts) cs
 
 module _ (bytes : ℕ) (key : Key) (ts : List Movement) (cs : List ℕ) (k : ℕ) (p : Spot) (zs : List ℕ) where
   pub put_step : (d : Movement) → k < length ts

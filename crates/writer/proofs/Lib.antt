@@ -6,7 +6,6 @@ pub mod Carried
 pub mod Laid
 pub mod Written
 pub mod Theorems
-pub mod Planned
 pub mod Turns
 pub mod Groups
 pub mod Tallied

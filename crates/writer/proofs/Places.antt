@@ -1,13 +1,13 @@
 -- A row put at its place, and the ends around the rows, as the code comes to them.
 use mathlib.Core.Path.{◌≡◌, sym, ◌∙◌}
-use mathlib.Core.Bool.{Bool, true, false, ◌&&◌}
+use mathlib.Core.Bool.{Bool, true, ◌&&◌}
 use mathlib.Core.List.{List}
 use Prim.Native.Nat.{ℕ, ◌+◌, ◌-◌, ◌*◌, ◌≤◌}
 use native.Mathlib.Nat.{add-sub_cancel_left}
 use native.Mathlib.Omega.{arith}
 use lib.Dec.{leb}
 use lib.ListN.{length, take, drop, length-drop}
-use lib.Seq.{drop-drop, length-take-le}
+use lib.Seq.{drop-drop}
 use borrow.Author.Tests.{leb-true}
 use borrow.Rule.Slice.PartMut.{put_mid}
 use Rattle.zones.proofs.Bools.{and_left, and_right}
@@ -25,24 +25,9 @@ module _ (bytes : ℕ) (k : Key) (m : Movement) (cs : List ℕ) (p : Spot) (out 
   len = length cs
 
   module _ {a : Bool} (q : a ≡ placed bytes m len (length out) p) where
-    -- no place, no change
-    pub spot_stays : a ≡ false → p ≡ spot_of bytes m len (length out) p
-    unfolding spot_of
-    spot_stays e = sym (rw (← q, e))
-
-    pub out_stays : a ≡ false → out ≡ row_put bytes k m cs p out
-    unfolding row_put
-    out_stays e = sym (rw (← q, e))
-
     module _ (e : a ≡ true) where
       ok : placed bytes m len (length out) p ≡ true
       ok = sym q ∙ e
-
-      pub few_texts : m.complements ≤ most_in_statement
-      few_texts = leb-true m.complements most_in_statement (and_left (leb m.complements most_in_statement) _ (and_left (leb m.complements most_in_statement && leb bytes (length out)) _ ok))
-
-      pub bytes_inside : bytes ≤ length out
-      bytes_inside = leb-true bytes (length out) (and_right (leb m.complements most_in_statement) _ (and_left (leb m.complements most_in_statement && leb bytes (length out)) _ ok))
 
       pub at_inside : p.at ≤ bytes
       at_inside = leb-true p.at bytes (and_left (leb p.at bytes) _ (and_right (leb m.complements most_in_statement && leb bytes (length out)) _ ok))
@@ -56,33 +41,11 @@ module _ (bytes : ℕ) (k : Key) (m : Movement) (cs : List ℕ) (p : Spot) (out 
       is_room : room_at bytes m len p ≡ room
       is_room = rw (room_left p.at (group_size m) bytes at_inside, room_left p.from (m.complements * text_size) len from_inside)
 
-      pub spot_crowded : room ≡ false → p ≡ spot_of bytes m len (length out) p
-      unfolding spot_of
-      spot_crowded f = sym (rw (ok, is_room, f))
-
-      pub out_crowded : room ≡ false → out ≡ row_put bytes k m cs p out
-      unfolding row_put
-      out_crowded f = sym (rw (ok, is_room, f))
-
       module _ (f : room ≡ true) where
-        pub group_inside : p.at + group_size m ≤ bytes
-        group_inside =
-            let i = at_inside in
-            omega (arith, leb-true (group_size m) (bytes - p.at) (and_left (leb (group_size m) (bytes - p.at)) _ f))
-
         pub texts_inside : p.from + m.complements * text_size ≤ len
         texts_inside =
             let i = from_inside in
             omega (arith, leb-true (m.complements * text_size) (len - p.from) (and_right (leb (group_size m) (bytes - p.at)) _ f))
-
-        -- the parts as the code cuts them out
-        pub group_length : length (take (p.at + group_size m - p.at) (drop p.at out)) ≡ group_size m
-        group_length =
-            rw (add-sub_cancel_left p.at (group_size m)) (length-take-le (group_size m) (drop p.at out) (omega (arith, length-drop p.at out, group_inside, bytes_inside)))
-
-        pub texts_length : length (take (p.from + m.complements * text_size - p.from) (drop p.from cs)) ≡ m.complements * text_size
-        texts_length =
-            rw (add-sub_cancel_left p.from (m.complements * text_size)) (length-take-le (m.complements * text_size) (drop p.from cs) (omega (arith, length-drop p.from cs, texts_inside)))
 
         pub spot_goes : ◌≡◌ {A = Spot} (record { at = p.at + group_size m; from = p.from + m.complements * text_size }) (spot_of bytes m len (length out) p)
         unfolding spot_of

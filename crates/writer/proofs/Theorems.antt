@@ -7,10 +7,13 @@ use Prim.Native.Nat.{ℕ, ◌+◌, ◌<◌}
 use native.Mathlib.Omega.{arith}
 use lib.Dec.{ltb}
 use lib.ListN.{length, take, get_or}
+use Rattle.std.specs.Prelude.{Ok, Err}
 use Rattle.zones.specs.Choice.{pick}
 use Rattle.zones.specs.Pieces.{flat}
 use Rattle.framing.specs.declared.Form.{Form}
 use Rattle.framing.specs.Files.{All, file_of, end_of, plain}
+use Rattle.framing.specs.Refusals.{refusal_by}
+use Rattle.framing.specs.declared.refusals.Reason.TheVariants.{ShortOutput}
 use Rattle.grammar.specs.Record.{Rec}
 use Rattle.grammar.specs.Statements.{Statement, records_of_movements, records_of, all_records}
 use Rattle.grammar.specs.Files.{pieces, canonical, layout_of, Gives, Reads, Writable}
@@ -28,7 +31,8 @@ use Rattle.contents.specs.declared.Head.{Head}
 use Rattle.tables.specs.Tables.{rows_of}
 use Rattle.writer.specs.Values.{statement_from, texts_of, ReadAs, Carried, written_of, records_in}
 use Rattle.writer.specs.Test.{carries}
-use Rattle.writer.specs.Writing.{refused_write, write_answer_of}
+use Rattle.writer.specs.Writing.{write_answer_of}
+use Rattle.writer.specs.Answers.{paper_write}
 use Rattle.writer.proofs.Alls.{all_left}
 use Rattle.writer.proofs.Back.{rows_back, texts_back, movements_back, texts_counted}
 use Rattle.writer.proofs.Carried.{carried, carries_all}
@@ -123,17 +127,17 @@ module _ (h : Head) (rows : List Movement) (cs : List ℕ) where
   pub read_carries : ReadAs h rows cs → carries h rows cs ≡ true
   read_carries r = carries_all h rows cs (rw (r.same_head, r.same_rows, r.same_complements) at (read_carried r.reads r.number r.inside))
 
-  pub refused_19 : (n : ℕ) → ((write_answer_of h rows cs n).number ≡ 19) ↔ (ReadAs h rows cs → ⊥)
+  pub refused_19 : (n : ℕ) → ((paper_write (write_answer_of h rows cs n)).number ≡ 19) ↔ (ReadAs h rows cs → ⊥)
   unfolding write_answer_of
   refused_19 n = (
     (λ e r. other (ltb n (length (written_of h rows cs))) (length (written_of h rows cs)) (rw (read_carries r) at e)),
     (λ none. by (carries h rows cs) refl none),
   )
     where
-      other : (t : Bool) (m : ℕ) → (pick t (refused_write 20) (record { number = 0; «record» = 0; bytes = m })).number ≡ 19 → ⊥
+      other : (t : Bool) (m : ℕ) → (paper_write (pick t (Err (refusal_by ShortOutput 0)) (Ok m))).number ≡ 19 → ⊥
       other true m e = omega arith
       other false m e = omega arith
 
-      by : (t : Bool) → carries h rows cs ≡ t → (ReadAs h rows cs → ⊥) → (write_answer_of h rows cs n).number ≡ 19
+      by : (t : Bool) → carries h rows cs ≡ t → (ReadAs h rows cs → ⊥) → (paper_write (write_answer_of h rows cs n)).number ≡ 19
       by true e none = absurd (none (carried_read h rows cs (carried h rows cs e)))
       by false e none = rw e

@@ -1,54 +1,39 @@
 -- The writer as a whole: its answer, and what its output then holds.
-use mathlib.Core.Path.{◌≡◌, refl, sym, ap, ap₂, ◌∙◌}
-use mathlib.Core.Bool.{Bool, true, false, ◌&&◌}
+use mathlib.Core.Path.{◌≡◌, refl, sym, ap, ◌∙◌}
+use Rattle.std.specs.Prelude.{Option, Some, None, Result, Ok, Err}
+use mathlib.Core.Bool.{Bool, true, false}
 use mathlib.Core.List.{List, [], ◌∷◌, ◌++◌, append_assoc}
-use Prim.Native.Nat.{ℕ, ◌+◌, ◌-◌, ◌*◌, ◌<◌, ◌≤◌}
+use Prim.Native.Nat.{ℕ, ◌+◌, ◌-◌, ◌*◌, ◌≤◌}
 use native.Mathlib.Omega.{arith}
 use lib.Dec.{leb, ltb}
 use lib.ListN.{length, take, drop, length-append, length-drop, take-append-drop}
 use lib.Seq.{take_at, drop_at, drop-drop, length-take-le}
-use borrow.Author.Tests.{eq-eqb, le-leb, lt-leb, lt-ltb, le-ltb, ltb-true, ltb-false}
+use borrow.Author.Tests.{eq-eqb, le-leb, leb-true, le-ltb, ltb-false}
+use Rattle.zones.specs.Choice.{pick}
 use Rattle.zones.specs.Pieces.{flat}
-use Rattle.zones.proofs.Bools.{and_left, and_right, both}
-use Rattle.grammar.specs.declared.Key.{Key}
+use Rattle.zones.proofs.Bools.{both}
+use Rattle.framing.specs.Refusals.{refusal_by}
+use Rattle.framing.specs.declared.refusals.Reason.TheVariants.{NoSuchFile, ShortOutput}
+use Rattle.framing.specs.declared.refusals.Refusal.{Refusal}
 use Rattle.grammar.specs.Record.{opening, closing}
 use Rattle.grammar.specs.Statements as values
 use Rattle.grammar.specs.Statements.{sizes, records_of_movements, records_of}
 use Rattle.grammar.proofs.Parts.{length_one}
-use Rattle.records.specs.July.{record_size, most_in_statement, write_balance, july2004}
+use Rattle.records.specs.July.{record_size, write_balance, july2004}
 use Rattle.records.proofs.Lawful.{july_lawful}
 use Rattle.fields.specs.declared.Movement.{Movement}
 use Rattle.contents.specs.declared.Head.{Head}
 use Rattle.writing.specs.Written.{balance_holds, opening_put, closing_put}
 use Rattle.writing.proofs.Held.{opening_holds, closing_holds}
 use Rattle.writer.specs.declared.Tally.{Tally}
-use Rattle.writer.specs.declared.Spot.{Spot}
-use Rattle.writer.specs.declared.WriteAnswer.{WriteAnswer}
 use Rattle.writer.specs.Values.{movements_from, statement_from, Carried, written_of}
 use Rattle.writer.specs.Test.{begun, tallied, completed, carries}
-use Rattle.writer.specs.Writing.{refused_write, write_answer_of, write_of}
-use Rattle.writer.specs.Steps.{plan_of, placed, spot_of, row_put, rows_put, first_spot, ends_put}
+use Rattle.writer.specs.Writing.{write_answer_of, write_of}
+use Rattle.writer.specs.Steps.{plan_of, rows_put, first_spot, ends_put}
 use Rattle.writer.specs.Answers.{WriteStatement}
-use Rattle.writer.proofs.Rows.{FineRows, Run, run}
+use Rattle.writer.proofs.Rows.{after, first, Passed, passed}
 use Rattle.writer.proofs.Carried.{carried}
 use Rattle.writer.proofs.Laid.{text, text_append, length_text, rows_laid}
-
--- where no byte may be written, none is
-nowhere : (x y : Bool) → (x && (false && y)) ≡ false
-nowhere true y = refl
-nowhere false y = refl
-
-no_place : (m : Movement) (len n : ℕ) (p : Spot) → 0 < p.at → placed 0 m len n p ≡ false
-no_place m len n p h = rw (lt-leb p.at 0 h) (nowhere (leb m.complements most_in_statement && leb 0 n) (leb p.from len))
-
-rows_none : (k : Key) (rows : List Movement) (cs : List ℕ) (p : Spot) (out : List ℕ) → 0 < p.at → rows_put 0 k rows cs p out ≡ out
-unfolding rows_put row_put spot_of
-rows_none k [] cs p out h = refl
-rows_none k (m ∷ ms) cs p out h = rw (no_place m (length cs) (length out) p h) (rows_none k ms cs p out h)
-
-ends_none : (h : Head) (out : List ℕ) → ends_put 0 h out ≡ out
-unfolding ends_put
-ends_none h out = refl
 
 -- its 01 and its 07
 abbrev opened : Head → List ℕ
@@ -83,9 +68,14 @@ module _ (h : Head) (a x c d : List ℕ) (p : length a ≡ record_size) (q : len
       let f : drop bytes out ≡ d = ap (λ (y : ℕ). drop y out) z ∙ sym (drop-drop record_size (record_size + length x) out) ∙ ap (drop record_size) t ∙ drop_at c d record_size q in
       rw (both (le-leb (2 * record_size) bytes (omega arith)) (le-leb bytes (length out) (omega (arith, l))), take_at a (x ++ (c ++ d)) record_size p, b, n, m, t, f, take_at x (c ++ d) (length x) refl, take_at c d record_size q, put_first, put_last)
 
+planned_none : (h : Head) (u : Option Tally) (len n : ℕ) → completed h u len ≡ false → plan_of h u len n ≡ Err (refusal_by NoSuchFile 0)
+unfolding completed plan_of
+planned_none h None len n q = refl
+planned_none h (Some t) len n q = rw q
+
 module _ (h : Head) (rows : List Movement) (cs : List ℕ) where
   abbrev s : Tally
-  s = tallied h (begun h) rows cs
+  s = after (first h) rows cs
 
   abbrev ms : List values.Movement
   ms = movements_from rows cs
@@ -95,25 +85,11 @@ module _ (h : Head) (rows : List Movement) (cs : List ℕ) where
     c : Carried h rows cs
     c = carried h rows cs e
 
-    ran : Run h (begun h) rows cs
-    unfolding carries completed
-    ran = run h (begun h) rows cs (and_left s.fits _ (and_left (s.fits && leb s.records most_in_statement) _ e))
-
-    old : balance_holds h.key h.old_date h.old_balance ≡ true
-    unfolding begun
-    old = and_left (balance_holds h.key h.old_date h.old_balance) _ ran.fits
-
-    new : balance_holds h.key h.new_date h.new_balance ≡ true
-    unfolding begun
-    new = and_left (balance_holds h.key h.new_date h.new_balance) _ (and_right (balance_holds h.key h.old_date h.old_balance) _ ran.fits)
-
-    fine : FineRows h rows cs
-    unfolding begun
-    fine = ran.fine
+    ran : Passed h rows cs
+    ran = passed h rows cs e
 
     count : s.records ≡ 2 + sizes ms
-    unfolding begun
-    count = ap (λ (t : Tally). t.records) ran.end
+    count = refl
 
     size : length (written_of h rows cs) ≡ s.records * record_size
     unfolding written_of
@@ -130,10 +106,10 @@ module _ (h : Head) (rows : List Movement) (cs : List ℕ) where
     parts = ap (λ l. opened h ++ l) (text_append (records_of_movements july2004 h.key ms) (closing h.key h.new_date h.new_balance ∷ []))
 
     first_wide : length (opened h) ≡ record_size
-    first_wide = july_lawful.wide (opening h.key h.old_date h.old_balance) (sym (opening_holds h.key h.old_date h.old_balance) ∙ old)
+    first_wide = july_lawful.wide (opening h.key h.old_date h.old_balance) (sym (opening_holds h.key h.old_date h.old_balance) ∙ ran.old)
 
     last_wide : length (closed h) ≡ record_size
-    last_wide = july_lawful.wide (closing h.key h.new_date h.new_balance) (sym (closing_holds h.key h.new_date h.new_balance) ∙ new)
+    last_wide = july_lawful.wide (closing h.key h.new_date h.new_balance) (sym (closing_holds h.key h.new_date h.new_balance) ∙ ran.new)
 
     rest_wide : length rest ≡ sizes ms * record_size
     rest_wide = omega (arith, ap length parts, length-append (opened h) (rest ++ (closed h ++ [])), length-append rest (closed h ++ []), length-append (closed h) [], first_wide, last_wide, size, count)
@@ -174,7 +150,7 @@ module _ (h : Head) (rows : List Movement) (cs : List ℕ) where
 
       -- the ends around what stands there, then the rows between the ends
       ends_there : ends_put (s.records * record_size) h out ≡ opened h ++ (x ++ (closed h ++ d))
-      ends_there = ap (ends_put (s.records * record_size) h) (sym cut) ∙ ends_laid h a x z d la lz old new (s.records * record_size) (omega (arith, count, lx))
+      ends_there = ap (ends_put (s.records * record_size) h) (sym cut) ∙ ends_laid h a x z d la lz ran.old ran.new (s.records * record_size) (omega (arith, count, lx))
 
       laid : rows_put (s.records * record_size) h.key rows cs first_spot (ends_put (s.records * record_size) h out) ≡ written_of h rows cs ++ drop (length (written_of h rows cs)) out
       laid =
@@ -183,53 +159,61 @@ module _ (h : Head) (rows : List Movement) (cs : List ℕ) where
           omega (arith, length-append (opened h) (x ++ (closed h ++ d)), length-append x (closed h ++ d), length-append (closed h) d, length-append a (x ++ (z ++ d)), length-append x (z ++ d), length-append z d, la, lz, first_wide, last_wide) in
           let k : length out ≡ length (a ++ (x ++ (z ++ d))) = ap length (sym cut) in
           ap (λ o. rows_put n h.key rows cs first_spot o) ends_there
-          ∙ rows_laid n h rows cs first_spot (opened h) x (closed h ++ d) fine first_wide lx (omega (arith, c.writable.valid.short)) (omega (arith, lx, count)) (omega (arith, r, l, k)) (omega (arith, c.whole))
+          ∙ rows_laid n h rows cs first_spot (opened h) x (closed h ++ d) ran.fine first_wide lx (omega (arith, c.writable.valid.short)) (omega (arith, lx, count)) (omega (arith, r, l, k)) (omega (arith, c.whole))
           ∙ rw (← end) (sym (ap (λ l. l ++ d) parts ∙ append_assoc (opened h) (rest ++ (closed h ++ [])) d ∙ ap (λ l. opened h ++ l) (append_assoc rest (closed h ++ []) d ∙ ap (λ l. rest ++ l) (append_assoc (closed h) [] d))))
 
--- THE WRITER: whatever is planned and put as the code does meets the contract
-module _ (h : Head) (rows : List Movement) (cs out : List ℕ) {a : WriteAnswer} {o p : List ℕ} (e : a ≡ plan_of h (s h rows cs) (length cs) (length out))
-    (f : o ≡ ends_put a.bytes h out) (g : p ≡ rows_put a.bytes h.key rows cs first_spot o) where
-  -- a refusal has no bytes
-  untouched : (n : ℕ) → a ≡ refused_write n → p ≡ out
-  untouched n q =
-      let z : a.bytes ≡ 0 = ap (λ (w : WriteAnswer). w.bytes) q in
-      let y : o ≡ out = f ∙ ap (λ (b : ℕ). ends_put b h out) z ∙ ends_none h out in
-      g ∙ ap₂ (λ b l. rows_put b h.key rows cs first_spot l) z y ∙ rows_none h.key rows cs first_spot out (omega arith)
+module _ (h : Head) (rows : List Movement) (cs out : List ℕ) where
+  abbrev plan : Result ℕ Refusal
+  plan = plan_of h (tallied h (begun h) rows cs) (length cs) (length out)
 
-  not_carried : carries h rows cs ≡ false → WriteStatement h rows cs out a p
-  unfolding plan_of write_answer_of write_of carries
-  not_carried q =
-      let w : a ≡ refused_write 19 = e ∙ rw q in
-      record { answer = w ∙ sym (rw q); content = untouched 19 w ∙ sym (rw q) }
+  -- how many bytes are written
+  abbrev wide : ℕ
+  wide = length (written_of h rows cs)
 
-  too_short : carries h rows cs ≡ true → length out < (s h rows cs).records * record_size → WriteStatement h rows cs out a p
-  unfolding plan_of write_answer_of write_of carries
-  too_short q l =
-      let w : a ≡ refused_write 20 = e ∙ rw (q, lt-ltb (length out) ((s h rows cs).records * record_size) l) in
-      let k = size h rows cs q in
-      record {
-        answer = w ∙ sym (rw (q, k, lt-ltb (length out) ((s h rows cs).records * record_size) l));
-        content = untouched 20 w ∙ sym (rw (q, k, lt-leb ((s h rows cs).records * record_size) (length out) l));
-      }
+  not_carried : carries h rows cs ≡ false → plan ≡ Err (refusal_by NoSuchFile 0)
+  unfolding carries
+  not_carried q = planned_none h (tallied h (begun h) rows cs) (length cs) (length out) q
 
-  written : carries h rows cs ≡ true → (s h rows cs).records * record_size ≤ length out → WriteStatement h rows cs out a p
-  unfolding plan_of write_answer_of write_of carries
-  written q l =
-      let n = (s h rows cs).records * record_size in
-      let w : a ≡ record { number = 0; «record» = 0; bytes = n } = e ∙ rw (q, le-ltb (length out) n l) in
-      let z : a.bytes ≡ n = ap (λ (x : WriteAnswer). x.bytes) w in
-      let k = size h rows cs q in
-      let y : p ≡ rows_put n h.key rows cs first_spot (ends_put n h out) =
-      g ∙ ap (λ l. rows_put a.bytes h.key rows cs first_spot l) f ∙ ap (λ (b : ℕ). rows_put b h.key rows cs first_spot (ends_put b h out)) z in
-      record {
-        answer = w ∙ sym (rw (q, k, le-ltb (length out) n l));
-        content = y ∙ laid h rows cs q out l ∙ sym (rw (q, le-leb (length (written_of h rows cs)) (length out) (rw k l)));
-      }
+  -- values that pass are planned by their own number of records
+  planned : carries h rows cs ≡ true → plan ≡ pick (ltb (length out) wide) (Err (refusal_by ShortOutput 0)) (Ok wide)
+  unfolding plan_of
+  planned q = let r = passed h rows cs q in rw (r.end, r.complete, size h rows cs q)
 
-  pub wrote : WriteStatement h rows cs out a p
-  wrote = by (carries h rows cs) (ltb (length out) ((s h rows cs).records * record_size)) refl refl
+  answered : plan ≡ write_answer_of h rows cs (length out)
+  unfolding write_answer_of
+  answered = by (carries h rows cs) refl
     where
-      by : (t u : Bool) → carries h rows cs ≡ t → ltb (length out) ((s h rows cs).records * record_size) ≡ u → WriteStatement h rows cs out a p
-      by false u q v = not_carried q
-      by true true q v = too_short q (ltb-true (length out) ((s h rows cs).records * record_size) v)
-      by true false q v = written q (ltb-false (length out) ((s h rows cs).records * record_size) v)
+      by : (t : Bool) → carries h rows cs ≡ t → plan ≡ write_answer_of h rows cs (length out)
+      by true q = planned q ∙ sym (rw q)
+      by false q = not_carried q ∙ sym (rw q)
+
+  -- THE WRITER: whatever is planned and put as the code does meets the contract; on refusal nothing is put
+  pub not_wrote : {e : Refusal} → Err e ≡ plan → WriteStatement h rows cs out (Err e) out
+  unfolding write_of
+  not_wrote {e} p = record { answer = p ∙ answered; content = by (carries h rows cs) (leb wide (length out)) refl refl }
+    where
+      by : (t u : Bool) → carries h rows cs ≡ t → leb wide (length out) ≡ u → out ≡ write_of h rows cs out
+      by false u q v = sym (rw q)
+      by true false q v = sym (rw (q, v))
+      by true true q v =
+          let g : Err e ≡ Ok wide = p ∙ planned q ∙ rw (le-ltb (length out) wide (leb-true wide (length out) v)) in
+          cc
+
+  pub wrote : {n : ℕ} {o w : List ℕ} → Ok n ≡ plan → o ≡ ends_put n h out → w ≡ rows_put n h.key rows cs first_spot o → WriteStatement h rows cs out (Ok n) w
+  unfolding write_of
+  wrote {n} {o} {w} p f g = record { answer = p ∙ answered; content = by (carries h rows cs) (ltb (length out) wide) refl refl }
+    where
+      by : (t u : Bool) → carries h rows cs ≡ t → ltb (length out) wide ≡ u → w ≡ write_of h rows cs out
+      by false u q v =
+          let z = p ∙ not_carried q in
+          cc
+      by true true q v =
+          let z : Ok n ≡ Err (refusal_by ShortOutput 0) = p ∙ planned q ∙ rw v in
+          cc
+      by true false q v =
+          let z : Ok n ≡ Ok wide = p ∙ planned q ∙ rw v in
+          let k = size h rows cs q in
+          let l = ltb-false (length out) wide v in
+          let y : n ≡ (s h rows cs).records * record_size = cc in
+          g ∙ ap (λ l. rows_put n h.key rows cs first_spot l) f ∙ ap (λ (b : ℕ). rows_put b h.key rows cs first_spot (ends_put b h out)) y
+          ∙ laid h rows cs q out (omega arith) ∙ sym (rw (q, le-leb wide (length out) l))

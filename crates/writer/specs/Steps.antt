@@ -1,24 +1,26 @@
 -- The steps in which the code writes.
-use Rattle.std.specs.Prelude.{Bool, ◌&&◌, List, [], ◌∷◌, ◌++◌, ℕ, ◌+◌, ◌-◌, ◌*◌, leb, ltb, length, take, drop}
+use Rattle.std.specs.Prelude.{Option, Some, None, Result, Ok, Err, Bool, ◌&&◌, List, [], ◌∷◌, ◌++◌, ℕ, ◌+◌, ◌-◌, ◌*◌, leb, ltb, length, take, drop}
 use Rattle.zones.specs.Choice.{pick}
 use Rattle.framing.specs.Files.{chunks}
+use Rattle.framing.specs.Refusals.{refusal_by}
+use Rattle.framing.specs.declared.refusals.Reason.TheVariants.{NoSuchFile, ShortOutput}
+use Rattle.framing.specs.declared.refusals.Refusal.{Refusal}
 use Rattle.grammar.specs.declared.Key.{Key}
 use Rattle.records.specs.July.{record_size, text_size, most_in_statement}
 use Rattle.fields.specs.declared.Movement.{Movement}
 use Rattle.contents.specs.declared.Head.{Head}
 use Rattle.writing.specs.Written.{opening_put, closing_put, movement_put, complement_put}
-use Rattle.writer.specs.Test.{completed}
-use Rattle.writer.specs.Writing.{refused_write}
+use Rattle.writer.specs.Test.{complete}
 use Rattle.writer.specs.declared.Tally.{Tally}
 use Rattle.writer.specs.declared.Spot.{Spot}
-use Rattle.writer.specs.declared.WriteAnswer.{WriteAnswer}
 
 -- the answer from what the rows gave
-unfoldable pub plan_of : Head → Tally → (complements out : ℕ) → WriteAnswer
-plan_of h s len n =
-    pick (completed h s len)
-    (pick (ltb n (s.records * record_size)) (refused_write 20) (record { number = 0; «record» = 0; bytes = s.records * record_size }))
-    (refused_write 19)
+unfoldable pub plan_of : Head → Option Tally → (complements out : ℕ) → Result ℕ Refusal
+plan_of h None len n = Err (refusal_by NoSuchFile 0)
+plan_of h (Some s) len n =
+    pick (complete h s len)
+    (pick (ltb n (s.records * record_size)) (Err (refusal_by ShortOutput 0)) (Ok (s.records * record_size)))
+    (Err (refusal_by NoSuchFile 0))
 
 -- texts, each into its part of 120 bytes
 unfoldable pub texts_put : Key → Movement → (texts : List (List ℕ)) → (out : List ℕ) → List ℕ

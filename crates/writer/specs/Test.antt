@@ -1,5 +1,5 @@
 -- The test of values row by row, as the code makes it.
-use Rattle.std.specs.Prelude.{Bool, true, false, not, ◌&&◌, ◌||◌, List, [], ◌∷◌, ℕ, ◌+◌, ◌*◌, ◌^◌, eqb, leb, length, drop, nat_abs, ◌+ℤ◌}
+use Rattle.std.specs.Prelude.{Option, Some, None, Bool, true, false, not, ◌&&◌, ◌||◌, List, [], ◌∷◌, ℕ, ◌+◌, ◌*◌, ◌^◌, eqb, leb, length, drop, nat_abs, ◌+ℤ◌}
 use Rattle.zones.specs.Choice.{pick}
 use Rattle.framing.specs.Files.{chunks}
 use Rattle.grammar.specs.Record.{same_amount}
@@ -14,26 +14,17 @@ unfoldable pub texts_hold : (ok seen : Bool) → List (List ℕ) → Bool
 texts_hold ok seen [] = ok
 texts_hold ok seen (t ∷ ts) = texts_hold (ok && (text_holds t && not (seen && is_mmo t))) (seen || is_mmo t) ts
 
--- before the rows: 01 and 07 are counted
-unfoldable pub begun : Head → Tally
+-- Before the rows 01 and 07 are counted. None where they cannot hold the head.
+unfoldable pub begun : Head → Option Tally
 begun h =
-    record {
-      fits =
-          balance_holds h.key h.old_date h.old_balance
-          && (balance_holds h.key h.new_date h.new_balance && leb h.old_date h.new_date);
-      records = 2;
-      balance = h.old_balance;
-      from = 0;
-    }
-
--- values that do not fit stay so
-abbrev pub stopped : Tally → Tally
-stopped s = record { fits = false; records = s.records; balance = s.balance; from = s.from }
+    pick (balance_holds h.key h.old_date h.old_balance
+    && (balance_holds h.key h.new_date h.new_balance && leb h.old_date h.new_date))
+    (Some (record { records = 2; balance = h.old_balance; from = 0 }))
+    None
 
 abbrev pub grown : Tally → Movement → Tally
 grown s m =
     record {
-      fits = true;
       records = s.records + 1 + m.complements;
       balance = s.balance +ℤ m.amount;
       from = s.from + m.complements * text_size;
@@ -55,23 +46,28 @@ reckoned s m len =
 abbrev pub room_for : Tally → Movement → (len : ℕ) → Bool
 room_for s m len = leb (s.records + 1 + m.complements) most_in_statement && leb (s.from + m.complements * text_size) len
 
--- a row more
-unfoldable pub tally_of : Head → Tally → Movement → List ℕ → Tally
+-- a row more; None where it does not fit
+unfoldable pub tally_of : Head → Tally → Movement → List ℕ → Option Tally
 tally_of h s m cs =
-    pick (s.fits && (movement_holds h.key m && (booked_within h m && reckoned s m (length cs))))
+    pick (movement_holds h.key m && (booked_within h m && reckoned s m (length cs)))
     (pick (room_for s m (length cs))
-    (pick (texts_hold true false (chunks text_size m.complements (drop s.from cs))) (grown s m) (stopped s))
-    (stopped s))
-    (stopped s)
+    (pick (texts_hold true false (chunks text_size m.complements (drop s.from cs))) (Some (grown s m)) None)
+    None)
+    None
 
-unfoldable pub tallied : Head → Tally → List Movement → List ℕ → Tally
-tallied h s [] cs = s
-tallied h s (m ∷ ms) cs = tallied h (tally_of h s m cs) ms cs
+-- values that do not fit stay so
+unfoldable pub tallied : Head → Option Tally → List Movement → List ℕ → Option Tally
+tallied h None rows cs = None
+tallied h (Some s) [] cs = Some s
+tallied h (Some s) (m ∷ ms) cs = tallied h (tally_of h s m cs) ms cs
 
 -- After the rows: all fits, no byte of the complements is left, and the sum is right.
-unfoldable pub completed : Head → Tally → (len : ℕ) → Bool
-completed h s len =
-    (s.fits && leb s.records most_in_statement) && (eqb s.from len && same_amount s.balance h.new_balance)
+abbrev pub complete : Head → Tally → (len : ℕ) → Bool
+complete h s len = leb s.records most_in_statement && (eqb s.from len && same_amount s.balance h.new_balance)
+
+unfoldable pub completed : Head → Option Tally → (len : ℕ) → Bool
+completed h None len = false
+completed h (Some s) len = complete h s len
 
 -- 19 is given where this is false: exactly where the values are not `Carried`
 unfoldable pub carries : Head → List Movement → List ℕ → Bool

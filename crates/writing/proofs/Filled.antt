@@ -22,8 +22,8 @@ use Rattle.layouts.specs.Zone.{part}
 use Rattle.grammar.specs.declared.Key.{Key}
 use Rattle.records.specs.July.{record_size, text_size, write_balance, write_movement, write_complement, repeats}
 use Rattle.fields.specs.declared.Movement.{Movement}
-use Rattle.writing.specs.Written.{posting_of}
-use Rattle.writing.specs.Groups.{bank_text, account_text, front_text, balance_text, middle_text, last_text}
+use Rattle.writing.specs.Written.{posting_of, opening_put, closing_put}
+use Rattle.writing.specs.Groups.{bank_text, account_text, front_text, balance_text, balance_put, middle_text, last_text}
 use Rattle.writing.proofs.Tested.{KeyWide, RowWide}
 
 -- what a call left, where the value can be written
@@ -68,23 +68,31 @@ module _ (c : ℕ) (k : Key) (i o : List ℕ) (d : ℕ) (w : KeyWide k) (p : len
   length_front = length_pieces (16 ∷ 24 ∷ []) (bank_text c k i ∷ account_text k o d ∷ []) front_wide
 
 -- 01 and 07
-pub balance_put : (c : ℕ) (k : Key) (d : ℕ) (v : ℤ) → KeyWide k → (x : List ℕ) {a b e f : List ℕ} → length x ≡ record_size
+pub balance_pasted : (c : ℕ) (k : Key) (d : ℕ) (v : ℤ) → KeyWide k → (x : List ℕ) {a b e f : List ℕ} → length x ≡ record_size
     → a ≡ front_text c k (replicate 4 32) (replicate 2 32) d → b ≡ replicate 50 32 → e ≡ amount_text v → f ≡ replicate 16 32
     → pasted 0 (40 ∷ 50 ∷ 14 ∷ 16 ∷ []) (a ∷ b ∷ e ∷ f ∷ []) x ≡ balance_text c k d v
 unfolding balance_text
-balance_put c k d v w x l s t u y =
+balance_pasted c k d v w x l s t u y =
     rw (s, t, u, y)
     (filled (40 ∷ 50 ∷ 14 ∷ 16 ∷ []) (front_text c k (replicate 4 32) (replicate 2 32) d ∷ replicate 50 32 ∷ amount_text v ∷ replicate 16 32 ∷ []) x
     (length_front c k (replicate 4 32) (replicate 2 32) d w refl refl, (refl, (amounts.length_text v, (refl, tt)))) l)
 
 -- the groups are the paper's zones
-pub opening_text_lem : (k : Key) (d : ℕ) (a : ℤ) → balance_text 49 k d a ≡ write_balance "01" k d a
+opening_text : (k : Key) (d : ℕ) (a : ℤ) → balance_text 49 k d a ≡ write_balance "01" k d a
 unfolding balance_text front_text bank_text account_text flat write_balance
-opening_text_lem k d a = simp (append_assoc, append-nil)
+opening_text k d a = simp (append_assoc, append-nil)
 
-pub closing_text_lem : (k : Key) (d : ℕ) (a : ℤ) → balance_text 55 k d a ≡ write_balance "07" k d a
+closing_text : (k : Key) (d : ℕ) (a : ℤ) → balance_text 55 k d a ≡ write_balance "07" k d a
 unfolding balance_text front_text bank_text account_text flat write_balance
-closing_text_lem k d a = simp (append_assoc, append-nil)
+closing_text k d a = simp (append_assoc, append-nil)
+
+pub opening_put_lem : (k : Key) (d : ℕ) (a : ℤ) (x : List ℕ) → balance_put 49 k d a x ≡ opening_put k d a x
+unfolding balance_put opening_put
+opening_put_lem k d a x = rw (opening_text k d a)
+
+pub closing_put_lem : (k : Key) (d : ℕ) (a : ℤ) (x : List ℕ) → balance_put 55 k d a x ≡ closing_put k d a x
+unfolding balance_put closing_put
+closing_put_lem k d a x = rw (closing_text k d a)
 
 -- the rest of a 04
 module _ (m : Movement) (w : RowWide m) where

@@ -1,12 +1,12 @@
 -- What the tests of the code's parts say of values, and of a complement's text.
-use mathlib.Core.Path.{◌≡◌, sym, ap, ◌∙◌}
-use mathlib.Core.Bool.{Bool, true, false, ◌&&◌, ◌||◌}
+use mathlib.Core.Path.{◌≡◌, ap}
+use mathlib.Core.Bool.{Bool, false, ◌&&◌, ◌||◌}
 use mathlib.Core.List.{List, [], ◌∷◌}
 use Prim.Native.Nat.{ℕ, ◌^◌, ◌<◌}
 use native.Mathlib.Omega.{arith}
 use lib.Dec.{eqb, ltb}
 use lib.ListN.{length, take, length-take}
-use borrow.Author.Tests.{eq-eqb, ne_eqb}
+use borrow.Author.Tests.{eq-eqb}
 use Rattle.zones.specs.Class.{digit, letter, alnum, blank, permitted, flag, in_class, all}
 use Rattle.zones.specs.Text.{bytes}
 use Rattle.zones.proofs.Bools.{conj}
@@ -15,9 +15,9 @@ use Rattle.zones.proofs.Pasted.{Wide}
 use Rattle.dates.specs.Days.{is_day}
 use Rattle.amounts.specs.Amounts.{has_amount}
 use Rattle.grammar.specs.declared.Key.{Key}
-use Rattle.records.specs.July.{text_size, is_mmo}
+use Rattle.records.specs.July.{is_mmo}
 use Rattle.fields.specs.declared.Movement.{Movement}
-use Rattle.writing.specs.Written.{posting_of, key_holds, posting_holds, mmo_holds, plain_holds, text_holds}
+use Rattle.writing.specs.Written.{posting_of, key_holds, posting_holds}
 
 -- an array has its width
 abbrev pub KeyWide : Key → Type 0
@@ -55,15 +55,3 @@ module _ (t : List ℕ) where
   pub no_mmo : length t < 3 → false ≡ is_mmo t
   unfolding is_mmo
   no_mmo h = other_length (bytes "MMO") (take 3 t) (λ e. omega (arith, e, length-take 3 t))
-
-  pub other_text : (length t ≡ text_size → ⊥) → false ≡ text_holds t
-  unfolding text_holds
-  other_text h = rw (ne_eqb (length t) text_size h)
-
-  pub mmo_text : {a : Bool} → length t ≡ text_size → is_mmo t ≡ true → a ≡ mmo_holds t → a ≡ text_holds t
-  unfolding text_holds
-  mmo_text l m e = e ∙ sym (rw (eq-eqb (length t) text_size l, m))
-
-  pub plain_text : {a : Bool} → length t ≡ text_size → is_mmo t ≡ false → a ≡ plain_holds t → a ≡ text_holds t
-  unfolding text_holds
-  plain_text l m e = e ∙ sym (rw (eq-eqb (length t) text_size l, m))

@@ -6,9 +6,9 @@ ghost use Rattle.zones.specs.Class.{in_class};
 ghost use Rattle.zones.specs.Class.Class.{digit, flag};
 ghost use Rattle.dates.specs.Days.{is_day};
 ghost use Rattle.amounts.specs.Amounts.{has_amount};
-ghost use Rattle.records.specs.July.{record_size, text_size};
+ghost use Rattle.records.specs.July.{text_size};
 ghost use Rattle.writing.specs.Written.{posting_of, key_holds, posting_holds, mmo_holds, plain_holds};
-ghost use Rattle.writing.specs.Groups.{bank_text, account_text, front_text, balance_text, middle_text, last_text};
+ghost use Rattle.writing.specs.Groups.{bank_text, account_text, front_text, balance_put, middle_text, last_text};
 ghost use Rattle.writing.specs.Answers.{BalanceFits, RowFits, TextFits, IsMmo, PutOpening, PutClosing, PutMovement, PutComplement};
 
 use fields::Movement;
@@ -18,13 +18,13 @@ use records::{RECORD, TEXT};
 fn is_digit(b: u8) -> bool
     ensures { result ≡ in_class digit b }
 {
-    (b'0' <= b) & (b <= b'9')
+    b.is_ascii_digit()
 }
 
 fn is_flag(b: u8) -> bool
     ensures { result ≡ in_class flag b }
 {
-    ((b'0' <= b) & (b <= b'1')) | ((b' ' <= b) & (b <= b' '))
+    matches!(b, b'0' | b'1' | b' ')
 }
 
 fn key_fits(key: Key) -> bool
@@ -79,6 +79,7 @@ pub fn is_mmo(text: &[u8]) -> bool
     zones::same(b"MMO", &text[0..3])
 }
 
+#[tactic(auto, unfolding(crate::specs::Written::mmo_holds))]
 fn mmo_fits(text: &[u8]) -> bool
     requires { length text.now ≡ text_size }
     ensures { result ≡ mmo_holds text.now }
@@ -88,6 +89,7 @@ fn mmo_fits(text: &[u8]) -> bool
             & (zones::digits(&text[7..21]) & zones::blanks(&text[21..73])))
 }
 
+#[tactic(auto, unfolding(crate::specs::Written::plain_holds))]
 fn plain_fits(text: &[u8]) -> bool
     requires { length text.now ≡ text_size }
     ensures { result ≡ plain_holds text.now }
@@ -96,6 +98,7 @@ fn plain_fits(text: &[u8]) -> bool
 }
 
 // Whether a 05 can hold the text: qualifier and information, 73 bytes.
+#[tactic(auto, unfolding(crate::specs::Written::text_holds))]
 pub fn text_fits(text: &[u8]) -> bool
     ensures { TextFits text.now result }
 {
@@ -140,11 +143,16 @@ fn put_front(out: &mut [u8], code: u8, key: Key, internal: [u8; 4], operation: [
     put_account(&mut out[16..40], key, operation, date);
 }
 
-// A 01 or a 07, by the second character of its code.
+// A 01 or a 07, by the second character of its code, into 120 bytes. Nothing changes where the part has another length or the record cannot hold the values.
 fn put_balance(out: &mut [u8], code: u8, key: Key, date: u32, amount: i64)
-    requires { (length out.old ≡ record_size) × (is_day date ≡ true) × (has_amount amount ≡ true) }
-    ensures { out.new ≡ balance_text code key date amount }
+    ensures { out.new ≡ balance_put code key date amount out.old }
 {
+    if out.len() != RECORD {
+        return;
+    }
+    if !balance_fits(key, date, amount) {
+        return;
+    }
     put_front(&mut out[0..40], code, key, [b' '; 4], [b' '; 2], date);
     zones::put(&mut out[40..90], &[b' '; 50]);
     amounts::put(&mut out[90..104], amount);
@@ -155,12 +163,6 @@ fn put_balance(out: &mut [u8], code: u8, key: Key, date: u32, amount: i64)
 pub fn put_opening(out: &mut [u8], key: Key, date: u32, amount: i64)
     ensures { PutOpening key date amount out.old out.new }
 {
-    if out.len() != RECORD {
-        return;
-    }
-    if !balance_fits(key, date, amount) {
-        return;
-    }
     put_balance(out, b'1', key, date, amount);
 }
 
@@ -168,12 +170,6 @@ pub fn put_opening(out: &mut [u8], key: Key, date: u32, amount: i64)
 pub fn put_closing(out: &mut [u8], key: Key, date: u32, amount: i64)
     ensures { PutClosing key date amount out.old out.new }
 {
-    if out.len() != RECORD {
-        return;
-    }
-    if !balance_fits(key, date, amount) {
-        return;
-    }
     put_balance(out, b'7', key, date, amount);
 }
 
@@ -209,9 +205,7 @@ pub fn put_movement(out: &mut [u8], key: Key, m: Movement)
     if !row_fits(key, m) {
         return;
     }
-    let internal = m.internal;
-    let operation = m.code;
-    put_front(&mut out[0..40], b'4', key, internal, operation, m.booked);
+    put_front(&mut out[0..40], b'4', key, m.internal, m.code, m.booked);
     put_middle(&mut out[40..81], m);
     put_last(&mut out[81..120], m);
 }
@@ -227,9 +221,7 @@ pub fn put_complement(out: &mut [u8], key: Key, m: Movement, text: &[u8])
     if !(row_fits(key, m) & text_fits(text)) {
         return;
     }
-    let internal = m.internal;
-    let operation = m.code;
-    put_front(&mut out[0..40], b'5', key, internal, operation, m.booked);
+    put_front(&mut out[0..40], b'5', key, m.internal, m.code, m.booked);
     zones::put(&mut out[40..45], b"     ");
     zones::put(&mut out[45..118], text);
     zones::put(&mut out[118..120], b"  ");

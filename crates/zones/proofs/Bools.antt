@@ -1,6 +1,7 @@
 -- Laws of tests.
 use mathlib.Core.Path.{◌≡◌, refl}
 use mathlib.Core.Bool.{Bool, true, false, ◌&&◌, ◌||◌, false≢true}
+pub use mathlib.Core.Bool.{and_assoc, and-true as and_one}
 
 pub and_left : (a b : Bool) → (a && b) ≡ true → a ≡ true
 and_left true b h = refl
@@ -12,14 +13,6 @@ and_right false b h = absurd (false≢true h)
 
 pub both : {a b : Bool} → a ≡ true → b ≡ true → (a && b) ≡ true
 both p q = rw p q
-
-pub and_assoc : (a b c : Bool) → ((a && b) && c) ≡ (a && (b && c))
-and_assoc true b c = refl
-and_assoc false b c = refl
-
-pub and_one : (a : Bool) → (a && true) ≡ a
-and_one true = refl
-and_one false = refl
 
 -- a test made of two, side by side
 pub conj : {a b x y : Bool} → a ≡ x → b ≡ y → (a && b) ≡ (x && y)

@@ -1,29 +1,33 @@
 -- Two rows of bytes compared byte by byte, and a copy.
-use mathlib.Core.Path.{◌≡◌, refl, ap, ap₂, sym, ◌∙◌}
-use mathlib.Core.Bool.{Bool, true, false, ◌&&◌, false≢true}
+use mathlib.Core.Path.{◌≡◌, refl, sym, ap, ap₂, ◌∙◌}
+use mathlib.Core.Bool.{Bool, true, false, ◌&&◌, and_assoc, and-true}
 use mathlib.Core.List.{List, [], ◌∷◌, ◌++◌, append-nil}
-use Prim.Native.Nat.{ℕ, suc, ◌+◌, ◌<◌, ◌≤◌, min}
-use native.Mathlib.Numerals.{add-one}
+use Prim.Native.Nat.{ℕ, ◌≤◌, min}
+use native.Mathlib.Nat.{min_comm}
 use native.Mathlib.Omega.{arith}
-use lib.Dec.{eqb, leb}
-use lib.ListN.{length, take, drop, get_or, set, drop_of_length-le}
-use lib.Seq.{drop-cons, take-suc, take_all, take-length, drop-length, set_at, length-take-le}
-use borrow.Author.Tests.{eqb-true, eq-eqb, leb-true, leb-false}
+use lib.Dec.{eqb}
+use lib.ListN.{length, take, drop, drop_of_length-le}
+use lib.Seq.{take_all}
+use Rattle.std.proofs.lemmas.List.{take_min, drop_min}
+use Rattle.std.proofs.lemmas.Slice.Eq.{bytes_eq-Decides}
+use Rattle.std.specs.Cmp.Lexicographic.{pointwise}
+use Rattle.std.specs.List.{fold, zip}
 use Rattle.zones.specs.Copy.{same_bytes, copied}
-use Rattle.zones.proofs.Bools.{and_left, and_right, both, and_assoc, and_one}
+
+-- the test is the library's equality of two slices
+same_pointwise : (a b : List ℕ) → pointwise eqb a b ≡ same_bytes a b
+unfolding same_bytes
+same_pointwise [] [] = refl
+same_pointwise [] (y ∷ b) = refl
+same_pointwise (x ∷ a) [] = refl
+same_pointwise (x ∷ a) (y ∷ b) = ap (λ t. eqb x y && t) (same_pointwise a b)
 
 -- the test is passed exactly by equal rows
 pub same_equal : (a b : List ℕ) → same_bytes a b ≡ true → a ≡ b
-unfolding same_bytes
-same_equal [] [] h = refl
-same_equal [] (y ∷ b) h = absurd (false≢true h)
-same_equal (x ∷ a) [] h = absurd (false≢true h)
-same_equal (x ∷ a) (y ∷ b) h = ap₂ ◌∷◌ (eqb-true x y (and_left (eqb x y) _ h)) (same_equal a b (and_right (eqb x y) _ h))
+same_equal a b h = (bytes_eq-Decides a b).0 (same_pointwise a b ∙ h)
 
 pub equal_same : (a : List ℕ) → same_bytes a a ≡ true
-unfolding same_bytes
-equal_same [] = refl
-equal_same (x ∷ a) = both (eq-eqb x x refl) (equal_same a)
+equal_same a = sym (same_pointwise a a) ∙ (bytes_eq-Decides a a).1 refl
 
 -- rows of other lengths are not the same
 pub other_length : (a b : List ℕ) → (length a ≡ length b → ⊥) → false ≡ same_bytes a b
@@ -33,42 +37,18 @@ other_length a b h = by (same_bytes a b) refl
     by true e = absurd (h (ap length (same_equal a b e)))
     by false e = refl
 
--- the loop's step and its end
-pub same_step : (ok : Bool) (a b : List ℕ) (i : ℕ) → i < length a → i < length b
-    → ((ok && eqb (get_or a i 0) (get_or b i 0)) && same_bytes (drop (i + 1) a) (drop (i + 1) b)) ≡ (ok && same_bytes (drop i a) (drop i b))
+-- what a fold over the pairs comes to
+pub same_fold : (ok : Bool) (a b : List ℕ) → length a ≡ length b → fold (λ t q. t && eqb q.0 q.1) ok (zip a b) ≡ (ok && same_bytes a b)
 unfolding same_bytes
-same_step ok a b i g h = rw (add-one, drop-cons a i 0, drop-cons b i 0) (and_assoc ok (eqb (get_or a i 0) (get_or b i 0)) _)
+same_fold ok [] [] h = sym (and-true ok)
+same_fold ok [] (y ∷ b) h = absurd (omega arith)
+same_fold ok (x ∷ a) [] h = absurd (omega arith)
+same_fold ok (x ∷ a) (y ∷ b) h = same_fold (ok && eqb x y) a b (omega arith) ∙ and_assoc ok (eqb x y) (same_bytes a b)
 
-pub same_done : (ok : Bool) (a b : List ℕ) (i : ℕ) → length a ≤ i → length b ≤ i → ok ≡ (ok && same_bytes (drop i a) (drop i b))
-unfolding same_bytes
-same_done ok a b i g h = rw (drop_of_length-le a g, drop_of_length-le b h) (sym (and_one ok))
-
--- one byte more is copied
-pub copy_step : (src dst : List ℕ) (i : ℕ) → i < length src → i < length dst
-    → set (take i src ++ drop i dst) i (get_or src i 0) ≡ take (i + 1) src ++ drop (i + 1) dst
-copy_step src dst i g h =
-    let l : length (take i src) ≡ i = length-take-le i src (omega arith) in
-    rw (add-one, take-suc src i 0, drop-cons dst i 0) (set_at (take i src) (get_or dst i 0) (drop (suc i) dst) (get_or src i 0) i l ∙ snoc (take i src))
-  where
-    snoc : (x : List ℕ) → x ++ (get_or src i 0 ∷ drop (suc i) dst) ≡ (x ++ (get_or src i 0 ∷ [])) ++ drop (suc i) dst
-    snoc [] = refl
-    snoc (y ∷ x) = ap (◌∷◌ y) (snoc x)
-
--- all that there is room for
-pub copy_done : (src dst : List ℕ) (i : ℕ) → min (length dst) (length src) ≤ i → i ≤ min (length dst) (length src) → take i src ++ drop i dst ≡ copied src dst
+-- the copy of as many bytes as both have
+pub copied_parts : (src dst : List ℕ) → take (min (length dst) (length src)) src ++ drop (min (length dst) (length src)) dst ≡ copied src dst
 unfolding copied
-copy_done src dst i g h = by (leb (length src) (length dst)) refl
-  where
-    by : (t : Bool) → leb (length src) (length dst) ≡ t → take i src ++ drop i dst ≡ take (length dst) src ++ drop (length src) dst
-    by true q =
-        let l : length src ≤ length dst = leb-true _ _ q in
-        let e : i ≡ length src = omega arith in
-        rw (e, take_all (length dst) src l, take-length)
-    by false q =
-        let m : length dst < length src = leb-false _ _ q in
-        let l : length dst ≤ length src = omega arith in
-        let e : i ≡ length dst = omega arith in
-        rw (e, drop_of_length-le dst l, drop-length)
+copied_parts src dst = ap₂ ◌++◌ (take_min (length dst) src) (rw min_comm (drop_min (length src) dst))
 
 -- a copy into a part of the same length is the part's whole content
 pub copied_whole : (src dst : List ℕ) → length src ≡ length dst → copied src dst ≡ src

@@ -3,42 +3,35 @@ use mathlib.Core.Path.{◌≡◌, refl, ap, sym, ◌∙◌}
 use mathlib.Core.Bool.{true}
 use mathlib.Core.List.{List, [], ◌∷◌, ◌++◌, append-nil}
 use Prim.Native.Nat.{ℕ, zero, suc, ◌+◌, ◌-◌, ◌*◌, ◌/◌, ◌%◌, ◌^◌, ◌<◌, ◌≤◌}
-use native.Mathlib.Nat.{pow-suc, pow-le-pow_right, not-suc-le-zero, le_of_suc-le-suc, add-zero, zero-add, mul-le-mul_right, mul_comm, mul_assoc, lt_of_lt_of_le, le_trans}
+use native.Mathlib.Nat.{pow-suc, pow-le-pow_right, not-suc-le-zero, add-zero, zero-add, mul-le-mul_right, mul_comm, mul_assoc, lt_of_lt_of_le, le_trans}
 use native.Mathlib.Numerals.{add-one, sub-one}
 use native.Mathlib.Omega.{arith}
 use lib.Dec.{lit<}
-use lib.ListN.{length, drop, get_or, set}
-use lib.Seq.{drop-cons}
+use lib.ListN.{length, take, drop, get_or, set}
+use lib.Seq.{length-take-le}
+use Rattle.std.proofs.lemmas.List.{drop-set}
+use Rattle.std.proofs.lemmas.List.Sums.{fold_more}
+use Rattle.std.specs.List.{fold}
 use Rattle.zones.specs.Class.{digit, between, every, all}
 use Rattle.zones.specs.Number.{value_from, value_of, most_digits, digits_into, digits_of}
 use Rattle.zones.proofs.Bools.{and_left, and_right, both}
 use Rattle.zones.proofs.Every.{in_range, range_in}
 
 -- one byte more is read
-pub read_step : (s : List ℕ) (n i : ℕ) → i < length s → value_from (n * 10 + get_or s i 0 % 16) (drop (i + 1) s) ≡ value_from n (drop i s)
+value_fold : (n : ℕ) (s : List ℕ) → value_from n s ≡ fold (λ m b. m * 10 + b % 16) n s
 unfolding value_from
-read_step s n i h = rw (add-one, drop-cons s i 0)
+value_fold n [] = refl
+value_fold n (b ∷ s) = value_fold (n * 10 + b % 16) s
 
--- what i bytes are worth at most
-pub more : (n d i : ℕ) → d < 16 → 3 * n + 5 ≤ 5 * 10 ^ i → 3 * (n * 10 + d) + 5 ≤ 5 * 10 ^ (i + 1)
-more n d i p q = rw (add-one, pow-suc) (omega arith)
-
-pub small : (n i : ℕ) → i < most_digits → 3 * n + 5 ≤ 5 * 10 ^ i → 3 * n + 5 ≤ 5 * 10 ^ 18
-small n i h q =
-    let l : i ≤ 18 = omega arith in
-    omega (arith, pow-le-pow_right {n = 10} (lit< tt) l)
-
-drop_set_at : (l : List ℕ) (j x : ℕ) → j < length l → drop j (set l j x) ≡ x ∷ drop (suc j) l
-drop_set_at [] j x h = absurd (not-suc-le-zero h)
-drop_set_at (y ∷ ys) zero x h = refl
-drop_set_at (y ∷ ys) (suc j) x h = drop_set_at ys j x (le_of_suc-le-suc h)
+pub value_more : (s : List ℕ) (i : ℕ) → i < length s → value_of (take (i + 1) s) ≡ value_of (take i s) * 10 + get_or s i 0 % 16
+value_more s i h = rw (value_fold 0 (take (i + 1) s), value_fold 0 (take i s)) (fold_more (λ m b. m * 10 + b % 16) 0 s i 0 h)
 
 -- one digit more is written
 pub write_step : (out : List ℕ) (n i : ℕ) → 0 < i → i ≤ length out
     → digits_into (i - 1) (n / 10) (drop (i - 1) (set out (i - 1) (48 + n % 10))) ≡ digits_into i n (drop i out)
 unfolding digits_into
 write_step out n zero p q = absurd (not-suc-le-zero p)
-write_step out n (suc j) p q = rw (sub-one, drop_set_at out j (48 + n % 10) q)
+write_step out n (suc j) p q = rw (sub-one, drop-set out j (48 + n % 10) q, add-one)
 
 -- a number below 10 ^ w is what its w digits say
 value_into : (w n : ℕ) (s : List ℕ) → n < 10 ^ w → value_from 0 (digits_into w n s) ≡ value_from n s
@@ -119,3 +112,9 @@ most_from n (d ∷ s) =
 
 pub value_most : (s : List ℕ) → 3 * value_of s + 5 ≤ 5 * 10 ^ length s
 value_most s = most_from 0 s
+
+-- fewer bytes than the most leave room for one more
+pub value_room : (s : List ℕ) (i : ℕ) → i < length s → length s ≤ most_digits → 3 * value_of (take i s) + 5 ≤ 5 * 10 ^ 18
+value_room s i h g =
+    let l : length (take i s) ≤ 18 = omega (arith, length-take-le i s) in
+    le_trans (value_most (take i s)) (omega (arith, pow-le-pow_right {n = 10} (lit< tt) l))

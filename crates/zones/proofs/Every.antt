@@ -1,32 +1,24 @@
--- A test of every byte: the loop's step, and what it says of parts and of classes.
+-- A test of every byte: as a fold, and what it says of parts and of classes.
 use mathlib.Core.Path.{◌≡◌, refl, ap, ap₂, sym, ◌∙◌}
-use mathlib.Core.Bool.{Bool, true, ◌&&◌}
+use mathlib.Core.Bool.{Bool, true, ◌&&◌, and_assoc, and-true}
 use mathlib.Core.List.{List, [], ◌∷◌, ◌++◌}
-use Prim.Native.Nat.{ℕ, zero, suc, ◌+◌, ◌<◌, ◌≤◌}
+use Prim.Native.Nat.{ℕ, zero, suc, ◌<◌, ◌≤◌}
 use native.Mathlib.Nat.{not-suc-le-zero, le_of_suc-le-suc}
-use native.Mathlib.Numerals.{add-one}
 use native.Mathlib.Omega.{arith}
 use lib.Dec.{leb}
-use lib.ListN.{length, take, drop, get_or, replicate, drop_of_length-le}
-use lib.Seq.{drop-cons}
+use lib.ListN.{length, take, drop, get_or, replicate, take-append-drop}
 use borrow.Author.Tests.{leb-true, le-leb}
+use Rattle.std.proofs.lemmas.Bool.Decides.{nat_tests}
+use Rattle.std.specs.List.{fold}
 use Rattle.zones.specs.Class.{Class, digit, letter, alnum, blank, permitted, flag, between, in_class, every, all}
-use Rattle.zones.proofs.Bools.{and_left, and_right, both, and_assoc, and_one, either}
+use Rattle.zones.proofs.Bools.{and_left, and_right, both}
 
 module _ (p : ℕ → Bool) where
-  -- the loop's step and its end
-  pub step : (ok : Bool) (s : List ℕ) (i : ℕ) → i < length s → ((ok && p (get_or s i 0)) && every p (drop (i + 1) s)) ≡ (ok && every p (drop i s))
+  -- what a fold of the tests comes to
+  pub every_fold : (ok : Bool) (s : List ℕ) → fold (λ t b. t && p b) ok s ≡ (ok && every p s)
   unfolding every
-  step ok s i h = rw (add-one, drop-cons s i 0) (and_assoc ok (p (get_or s i 0)) _)
-
-  pub done : (ok : Bool) (s : List ℕ) (i : ℕ) → length s ≤ i → ok ≡ (ok && every p (drop i s))
-  unfolding every
-  done ok s i h = rw (drop_of_length-le s h) (sym (and_one ok))
-
-  pub every_append : (a b : List ℕ) → every p a ≡ true → every p b ≡ true → every p (a ++ b) ≡ true
-  unfolding every
-  every_append [] b g h = h
-  every_append (x ∷ a) b g h = both (and_left (p x) _ g) (every_append a b (and_right (p x) _ g) h)
+  every_fold ok [] = sym (and-true ok)
+  every_fold ok (b ∷ s) = every_fold (ok && p b) s ∙ and_assoc ok (p b) (every p s)
 
   -- two parts pass exactly if each does
   pub every_both : (a b : List ℕ) → every p (a ++ b) ≡ (every p a && every p b)
@@ -34,17 +26,17 @@ module _ (p : ℕ → Bool) where
   every_both [] b = refl
   every_both (x ∷ a) b = ap (λ t. p x && t) (every_both a b) ∙ sym (and_assoc (p x) (every p a) (every p b))
 
+  pub every_append : (a b : List ℕ) → every p a ≡ true → every p b ≡ true → every p (a ++ b) ≡ true
+  every_append a b g h = rw (every_both a b, g, h)
+
+  parts : (n : ℕ) (s : List ℕ) → every p s ≡ true → (every p (take n s) && every p (drop n s)) ≡ true
+  parts n s h = sym (every_both (take n s) (drop n s)) ∙ ap (every p) (take-append-drop n s) ∙ h
+
   pub every_take : (n : ℕ) (s : List ℕ) → every p s ≡ true → every p (take n s) ≡ true
-  unfolding every
-  every_take zero s h = refl
-  every_take (suc n) [] h = refl
-  every_take (suc n) (x ∷ s) h = both (and_left (p x) _ h) (every_take n s (and_right (p x) _ h))
+  every_take n s h = and_left _ _ (parts n s h)
 
   pub every_drop : (n : ℕ) (s : List ℕ) → every p s ≡ true → every p (drop n s) ≡ true
-  unfolding every
-  every_drop zero s h = h
-  every_drop (suc n) [] h = h
-  every_drop (suc n) (x ∷ s) h = every_drop n s (and_right (p x) _ h)
+  every_drop n s h = and_right (every p (take n s)) _ (parts n s h)
 
   -- each byte passes
   pub every_at : (s : List ℕ) (i : ℕ) → i < length s → every p s ≡ true → p (get_or s i 0) ≡ true
@@ -65,20 +57,17 @@ in_range {lo} {hi} b h = (leb-true lo b (and_left (leb lo b) _ h), leb-true b hi
 pub range_in : {lo hi : ℕ} (b : ℕ) → lo ≤ b → b ≤ hi → between lo hi b ≡ true
 range_in {lo} {hi} b g h = both (le-leb lo b g) (le-leb b hi h)
 
-wider : {lo hi low high : ℕ} → low ≤ lo → hi ≤ high → (b : ℕ) → between lo hi b ≡ true → between low high b ≡ true
-wider g h b e = let r = in_range b e in range_in b (omega (arith, r.0)) (omega (arith, r.1))
-
 -- a zone of any class has permitted bytes
 pub class_permitted : (c : Class) (s : List ℕ) → all c s ≡ true → all permitted s ≡ true
 class_permitted c s h = every_weaker (in_class c) (in_class permitted) (one c) s h
   where
     one : (c : Class) (b : ℕ) → in_class c b ≡ true → in_class permitted b ≡ true
-    one digit b e = wider (omega arith) (omega arith) b e
-    one letter b e = wider (omega arith) (omega arith) b e
-    one alnum b e = either (between 48 57 b) _ (wider (omega arith) (omega arith) b) (wider (omega arith) (omega arith) b) e
-    one blank b e = wider (omega arith) (omega arith) b e
+    one digit b e = grind (arith, nat_tests)
+    one letter b e = grind (arith, nat_tests)
+    one alnum b e = grind (arith, nat_tests)
+    one blank b e = grind (arith, nat_tests)
     one permitted b e = e
-    one flag b e = either (between 48 49 b) _ (wider (omega arith) (omega arith) b) (wider (omega arith) (omega arith) b) e
+    one flag b e = grind (arith, nat_tests)
 
 -- blanks are blanks
 pub blanks_are : (s : List ℕ) → all blank s ≡ true → s ≡ replicate (length s) 32

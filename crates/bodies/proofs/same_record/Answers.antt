@@ -8,6 +8,3 @@ pub returns-then-has_debit_zero : goal.returns-then-has_debit_zero
 returns-then-has_debit_zero c =
     let p = c.requires in
     other_kept _ _ p.0 p.1 c.same.ensures.answer c.if-same.false c.has_debit_zero.ensures c.has_debit_zero-2.ensures c.if-has_debit_zero.true
-
-pub returns : goal.returns
-returns c = cc

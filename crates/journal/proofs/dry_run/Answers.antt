@@ -1,4 +1,7 @@
+use mathlib.Core.Path.{ap, ◌∙◌}
 use native.Mathlib.Omega.{arith}
+use Rattle.std.specs.Prelude.{Ok}
+use Rattle.std.proofs.lemmas.Result.{err_from_is_err_and}
 use Rattle.framing.specs.Files.{width_of}
 use Rattle.journal.proofs.Dry.{known_end, free_there, journal_lines, begins, ends_there, turn_there, judgeable, refused_there, held_there, stored_there}
 use Rattle.journal.proofs.dry_run.Goals as goal
@@ -15,30 +18,21 @@ loop-at-init c =
     let e = free_there p c.first_free-free.ensures.answer in
     rw e.1 (begins p)
 
-pub overflow_sub-lines-in-loop-at : goal.overflow_sub-lines-in-loop-at
-overflow_sub-lines-in-loop-at c = c.loop-at.invariant.room
-
 pub turn-requires : goal.turn-requires
 turn-requires c =
     judgeable c.requires c.loop-at.invariant c.loop-at-test.true c.statement_end-end.ensures.answer c.first_free-free.ensures.answer
 
-pub bounds-places-count : goal.bounds-places-count
-unfolding width_of
-bounds-places-count c =
-    let d = stored_there c.requires c.loop-at.invariant c.loop-at-test.true c.statement_end-end.ensures.answer c.first_free-free.ensures.answer c.turn.ensures c.in-Store.is in
-    let f = d.few in
-    omega arith
-
-pub overflow_cast-ends : goal.overflow_cast-ends
-overflow_cast-ends c =
+pub overflow_cast-part-in-loop-at : goal.overflow_cast-part-in-loop-at
+overflow_cast-part-in-loop-at c =
     let t = turn_there c.requires c.loop-at.invariant c.loop-at-test.true c.statement_end-end.ensures.answer in
     let w = t.within in
+    let s = c.loop-at.invariant.short in
     omega arith
 
-pub bounds-ends-count : goal.bounds-ends-count
+pub bounds-bounds-count : goal.bounds-bounds-count
 unfolding width_of
-bounds-ends-count c =
-    let d = stored_there c.requires c.loop-at.invariant c.loop-at-test.true c.statement_end-end.ensures.answer c.first_free-free.ensures.answer c.turn.ensures c.in-Store.is in
+bounds-bounds-count c =
+    let d = stored_there c.requires c.loop-at.invariant c.loop-at-test.true c.statement_end-end.ensures.answer c.first_free-free.ensures.answer c.turn.ensures (c.in_ok-turn.was ∙ ap (λ v. Ok v) c.in-Store.is) in
     let f = d.few in
     omega arith
 
@@ -48,16 +42,11 @@ overflow_sub-taken c =
     let r = t.rises in
     omega arith
 
-pub overflow_add-taken : goal.overflow_add-taken
-unfolding width_of
-overflow_add-taken c =
-    let d = stored_there c.requires c.loop-at.invariant c.loop-at-test.true c.statement_end-end.ensures.answer c.first_free-free.ensures.answer c.turn.ensures c.in-Store.is in
-    let r = d.room in
-    omega (arith, journal_lines c.requires)
-
-pub returns-in-Refuse : goal.returns-in-Refuse
-returns-in-Refuse c =
-    rw c.refused_plan.ensures (refused_there c.requires c.loop-at.invariant c.loop-at-test.true c.statement_end-end.ensures.answer c.first_free-free.ensures.answer c.turn.ensures c.in-Refuse.is)
+pub returns-in_err-turn : goal.returns-in_err-turn
+returns-in_err-turn c =
+    let p = err_from_is_err_and c.from_residual.result c.from_residual.ensures.1 in
+    rw (p.1, p.2)
+    (refused_there c.requires c.loop-at.invariant c.loop-at-test.true c.statement_end-end.ensures.answer c.first_free-free.ensures.answer c.turn.ensures c.in_err-turn.was)
 
 pub loop-at-smaller-in-Hold : goal.loop-at-smaller-in-Hold
 loop-at-smaller-in-Hold c =
@@ -68,7 +57,7 @@ loop-at-smaller-in-Hold c =
 
 pub loop-at-preserved-in-Hold : goal.loop-at-preserved-in-Hold
 loop-at-preserved-in-Hold c =
-    held_there c.requires c.loop-at.invariant c.loop-at-test.true c.statement_end-end.ensures.answer c.first_free-free.ensures.answer c.turn.ensures c.in-Hold.is
+    held_there c.requires c.loop-at.invariant c.loop-at-test.true c.statement_end-end.ensures.answer c.first_free-free.ensures.answer c.turn.ensures (c.in_ok-turn.was ∙ ap (λ v. Ok v) c.in-Hold.is)
 
 pub loop-at-smaller : goal.loop-at-smaller
 loop-at-smaller c =
@@ -80,10 +69,10 @@ loop-at-smaller c =
 pub loop-at-preserved : goal.loop-at-preserved
 unfolding width_of
 loop-at-preserved c =
-    stored_there c.requires c.loop-at.invariant c.loop-at-test.true c.statement_end-end.ensures.answer c.first_free-free.ensures.answer c.turn.ensures c.in-Store.is
+    stored_there c.requires c.loop-at.invariant c.loop-at-test.true c.statement_end-end.ensures.answer c.first_free-free.ensures.answer c.turn.ensures (c.in_ok-turn.was ∙ ap (λ v. Ok v) c.in-Store.is)
 
 pub returns : goal.returns
 returns c =
     let p = c.requires in
     let e = free_there p c.first_free-free.ensures.answer in
-    rw (c.done_plan.ensures, e.0, e.1) (ends_there p c.loop-at.invariant c.loop-at-test.false)
+    rw (e.0, e.1) (ends_there p c.loop-at.invariant c.loop-at-test.false)

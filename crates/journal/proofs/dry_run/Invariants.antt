@@ -4,7 +4,7 @@ use Rattle.journal.proofs.Dry.{Dry}
 use Rattle.journal.proofs.dry_run.Given as goal
 
 abbrev pub invariant-loop-at : goal.invariant-loop-at
-invariant-loop-at l = Dry l.journal l.form l.file l.places l.ends l.count l.taken l.held l.at
+invariant-loop-at l = Dry l.journal l.form l.file l.bounds l.count l.taken l.held l.at
 
 abbrev pub decreases-loop-at : goal.decreases-loop-at
 decreases-loop-at l = length l.file - l.at

@@ -1,9 +1,9 @@
-use Prim.Native.Nat.{◌-◌}
-use Rattle.journal.proofs.Judging.{Going}
+use lib.ListN.{drop}
+use mathlib.Core.Path.{◌≡◌}
+use Rattle.journal.specs.Plans.{parts_of, parts_in, judged_in}
 use Rattle.journal.proofs.judged_planned.Given as goal
 
-abbrev pub invariant-loop-p : goal.invariant-loop-p
-invariant-loop-p l = Going l.initial.after l.form l.file l.places l.ends l.count l.s l.after l.p
-
-abbrev pub decreases-loop-p : goal.decreases-loop-p
-decreases-loop-p l = l.count - l.p
+abbrev pub invariant-loop-part : goal.invariant-loop-part
+invariant-loop-part l =
+    let p = l.parts in
+    judged_in l.after p.form (parts_of (drop l.part-index p.bounds.now) p.file.now) l.s ≡ judged_in l.initial.after p.form (parts_in p) l.s

@@ -1,9 +1,10 @@
-use Rattle.journal.proofs.Latest.{Searching}
-use Prim.Native.Nat.{◌-◌}
+use lib.ListN.{drop}
+use mathlib.Core.Path.{◌≡◌}
+use Rattle.journal.specs.Newest.{last_part}
+use Rattle.journal.specs.Plans.{parts_of, parts_in, number_of}
 use Rattle.journal.proofs.last_planned.Given as goal
 
 abbrev pub invariant-loop-p : goal.invariant-loop-p
-invariant-loop-p l = Searching l.file l.places l.ends l.count l.key l.last l.p
-
-abbrev pub decreases-loop-p : goal.decreases-loop-p
-decreases-loop-p l = l.count - l.p
+invariant-loop-p l =
+    let p = l.parts in
+    last_part l.p (number_of l.last) (parts_of (drop l.p p.bounds.now) p.file.now) l.key ≡ last_part 0 0 (parts_in p) l.key

@@ -1,14 +1,10 @@
-use Rattle.journal_layout.proofs.Freeing.{begins, stops, goes_on, ends}
+use borrow.Author.Tests.{tests}
+use Rattle.std.proofs.Common.{rules}
+use Rattle.std.proofs.lemmas.Iterator.{first_from_Range}
+use Rattle.journal_layout.proofs.Freeing.{found}
 use Rattle.journal_layout.proofs.first_unused.Goals as goal
-
-pub loop-e-init : goal.loop-e-init
-loop-e-init c = begins c.args.journal.now
-
-pub returns-then-not-x : goal.returns-then-not-x
-returns-then-not-x c = stops c.args.journal.now c.loop-e.invariant c.loop-e-test.true c.entry_at-x.ensures.answer c.if-not-x.true
-
-pub loop-e-preserved : goal.loop-e-preserved
-loop-e-preserved c = goes_on c.args.journal.now c.loop-e.invariant c.loop-e-test.true c.entry_at-x.ensures.answer c.if-not-x.false
+use mathlib.Core.Path.{◌∙◌}
 
 pub returns : goal.returns
-returns c = ends c.args.journal.now c.loop-e.invariant c.loop-e-test.false
+returns c =
+    c.unwrap_or.ensures ∙ found c.args.journal.now c.find.result (first_from_Range _ _ _ c.find.result _ _ c.find.ensures.ran (λ x q k. search (rules, tests)) (λ x q k. search (rules, tests)))

@@ -1,10 +1,5 @@
-use Prim.Native.Nat.{◌-◌}
-use Rattle.entries.specs.Entries.{most_entries}
 use Rattle.journal_layout.proofs.Testing.{Walking}
 use Rattle.journal_layout.proofs.walk.Given as goal
 
 abbrev pub invariant-loop-e : goal.invariant-loop-e
 invariant-loop-e l = Walking l.journal l.e l.k
-
-abbrev pub decreases-loop-e : goal.decreases-loop-e
-decreases-loop-e l = most_entries - l.e

@@ -1,25 +1,26 @@
-use mathlib.Core.Path.{refl}
+use mathlib.Core.Path.{sym, ◌∙◌}
 use native.Mathlib.Omega.{arith}
-use Rattle.readers.proofs.Walk.{within, piece_length, stops, again, ends}
+use lib.ListN.{drop}
+use borrow.Author.Rules.{rules}
+use borrow.Author.Tests.{tests}
+use Rattle.std.proofs.lemmas.Iterator.Search.{position_from_yields_List}
+use Rattle.framing.proofs.Chunks.{YieldsList-from_chunks_exact}
+use Rattle.records.specs.July.{is_code}
+use Rattle.readers.proofs.Walk.{ended_at, ended_none, rest_is}
 use Rattle.readers.proofs.closing_end.Goals as goal
 
-pub loop-left-init : goal.loop-left-init
-loop-left-init c = record { inside = c.requires.inside; rest = refl }
+pub returns-in-Some : goal.returns-in-Some
+returns-in-Some c =
+    let b = drop c.args.at c.args.file.now in
+    ended_at _ _ _ _
+    (sym c.in-Some.is ∙ position_from_yields_List (is_code "07") _ _ _ c.position.ensures.ran
+    (YieldsList-from_chunks_exact c.args.width b (omega (arith, c.requires.0)) (c.chunks_exact.ensures.rest ∙ rest_is c.args.at c.args.file.now) c.chunks_exact.ensures.size)
+    (λ x b q k. search (rules, tests)))
 
-pub overflow_add-e : goal.overflow_add-e
-overflow_add-e c = omega (arith, within _ c.args.file.now _ _ c.loop-left.invariant.inside c.loop-left-test.true)
-
-pub slice_bounds-is_code-end : goal.slice_bounds-is_code-end
-slice_bounds-is_code-end c = omega (arith, within _ c.args.file.now _ _ c.loop-left.invariant.inside c.loop-left-test.true)
-
-pub is_code-requires : goal.is_code-requires
-is_code-requires c = omega (arith, piece_length _ c.args.file.now _ _ c.loop-left.invariant.inside c.loop-left-test.true, c.requires.wide)
-
-pub returns-then-is_code : goal.returns-then-is_code
-returns-then-is_code c = stops _ _ _ c.loop-left.invariant c.loop-left-test.true c.is_code.ensures c.if-is_code.true
-
-pub loop-left-preserved : goal.loop-left-preserved
-loop-left-preserved c = again _ _ _ c.loop-left.invariant c.loop-left-test.true c.is_code.ensures c.if-is_code.false
-
-pub returns : goal.returns
-returns c = ends _ _ _ c.loop-left.invariant c.loop-left-test.false
+pub returns-in-None : goal.returns-in-None
+returns-in-None c =
+    let b = drop c.args.at c.args.file.now in
+    ended_none _ _ _ _
+    (sym c.in-None.is ∙ position_from_yields_List (is_code "07") _ _ _ c.position.ensures.ran
+    (YieldsList-from_chunks_exact c.args.width b (omega (arith, c.requires.0)) (c.chunks_exact.ensures.rest ∙ rest_is c.args.at c.args.file.now) c.chunks_exact.ensures.size)
+    (λ x b q k. search (rules, tests)))

@@ -1,5 +1,4 @@
-use native.Mathlib.Omega.{arith}
-use Rattle.readers.proofs.Over.{step_unknown, step_short, step_past, step_within, step_other, step_there, step_fits}
+use Rattle.readers.proofs.Over.{step_unknown, step_short, step_past, step_other, step_there}
 use Rattle.readers.proofs.movement_step.Goals as goal
 
 pub returns-then-form-gt2 : goal.returns-then-form-gt2
@@ -8,17 +7,11 @@ returns-then-form-gt2 c = record { answer = step_unknown c.args.part.now c.args.
 pub returns-then-part-at : goal.returns-then-part-at
 returns-then-part-at c = record { answer = step_past c.args.part.now c.args.form c.args.at c.if-form-gt2.false c.if-part-at.true }
 
-pub returns-then-count-eq0 : goal.returns-then-count-eq0
-returns-then-count-eq0 c = record { answer = step_short c.args.part.now c.args.form c.args.at c.if-form-gt2.false c.if-count-eq0.true }
-
-pub slice_bounds-is_code-end : goal.slice_bounds-is_code-end
-slice_bounds-is_code-end c = omega (arith, step_within c.args.part.now c.args.form c.args.at c.if-form-gt2.false c.if-part-at.false c.if-count-eq0.false)
+pub returns-then-part-at-2 : goal.returns-then-part-at-2
+returns-then-part-at-2 c = record { answer = step_short c.args.part.now c.args.form c.args.at c.if-form-gt2.false c.if-part-at-2.true }
 
 pub returns-then-not-is_code : goal.returns-then-not-is_code
-returns-then-not-is_code c = record { answer = step_other c.args.part.now c.args.form c.args.at c.if-form-gt2.false c.if-part-at.false c.if-count-eq0.false c.is_code.ensures c.if-not-is_code.true }
-
-pub step_over-requires : goal.step_over-requires
-step_over-requires c = step_fits c.args.part.now c.args.form c.args.at c.if-form-gt2.false c.if-part-at.false c.if-count-eq0.false
+returns-then-not-is_code c = record { answer = step_other c.args.part.now c.args.form c.args.at c.if-form-gt2.false c.if-part-at.false c.if-part-at-2.false c.is_code.ensures c.if-not-is_code.true }
 
 pub returns : goal.returns
-returns c = record { answer = step_there c.args.part.now c.args.form c.args.at c.if-form-gt2.false c.if-part-at.false c.if-count-eq0.false c.is_code.ensures c.if-not-is_code.false c.step_over.ensures }
+returns c = record { answer = step_there c.args.part.now c.args.form c.args.at c.if-form-gt2.false c.if-part-at.false c.if-part-at-2.false c.is_code.ensures c.if-not-is_code.false c.step_over.ensures }

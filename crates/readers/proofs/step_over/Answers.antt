@@ -1,27 +1,24 @@
-use mathlib.Core.Path.{refl}
-use native.Mathlib.Nat.{zero-add}
+use mathlib.Core.Path.{ap, ◌∙◌}
+use Rattle.std.specs.Slice.Iter.{chunks_exact_rest, chunks_exact_size}
 use native.Mathlib.Omega.{arith}
-use Rattle.readers.proofs.Walk.{within, piece_length}
-use Rattle.readers.proofs.Over.{over_stops, over_again, over_ends}
+use lib.ListN.{drop}
+use borrow.Author.Rules.{rules}
+use borrow.Author.Tests.{tests}
+use Rattle.std.proofs.lemmas.Iterator.Search.{YieldsList-from_take_while}
+use Rattle.std.proofs.lemmas.Iterator.Consumers.{count_from_yields_List}
+use Rattle.framing.proofs.Chunks.{whole_chunks, YieldsList-from_chunks_exact}
+use Rattle.records.specs.July.{is_code}
+use Rattle.readers.proofs.Walk.{rest_is}
+use Rattle.readers.proofs.Over.{counted_all}
 use Rattle.readers.proofs.step_over.Goals as goal
 
-pub loop-left-init : goal.loop-left-init
-loop-left-init c = record { inside = c.requires.inside; behind = zero-add _; rest = refl }
-
-pub overflow_add-e : goal.overflow_add-e
-overflow_add-e c = omega (arith, within _ c.args.part.now _ _ c.loop-left.invariant.inside c.loop-left-test.true)
-
-pub slice_bounds-is_code-end : goal.slice_bounds-is_code-end
-slice_bounds-is_code-end c = omega (arith, within _ c.args.part.now _ _ c.loop-left.invariant.inside c.loop-left-test.true)
-
-pub is_code-requires : goal.is_code-requires
-is_code-requires c = omega (arith, piece_length _ c.args.part.now _ _ c.loop-left.invariant.inside c.loop-left-test.true, c.requires.wide)
-
-pub returns-then-not-is_code : goal.returns-then-not-is_code
-returns-then-not-is_code c = over_stops _ _ _ _ c.loop-left.invariant c.loop-left-test.true c.is_code.ensures c.if-not-is_code.true
-
-pub loop-left-preserved : goal.loop-left-preserved
-loop-left-preserved c = over_again _ _ _ _ c.loop-left.invariant c.loop-left-test.true c.is_code.ensures c.if-not-is_code.false
-
 pub returns : goal.returns
-returns c = over_ends _ _ _ _ c.loop-left.invariant c.loop-left-test.false
+returns c =
+    let b = drop c.args.at c.args.part.now in
+    let e = c.take_while.ensures.source in
+    let n = count_from_yields_List c.take_while.result _ c.count-complements.ensures.ran
+    (YieldsList-from_take_while _ (is_code "05")
+    (YieldsList-from_chunks_exact c.args.width b (omega (arith, c.requires.0))
+    (ap chunks_exact_rest e ∙ c.chunks_exact.ensures.rest ∙ rest_is c.args.at c.args.part.now) (ap chunks_exact_size e ∙ c.chunks_exact.ensures.size))
+    c.take_while.ensures.closure c.take_while.ensures.done (λ x b q k. search (rules, tests))) in
+    rw n (counted_all c.args.width c.args.at (whole_chunks c.args.width b))

@@ -1,6 +1,8 @@
 use mathlib.Core.Path.{ap, ◌∙◌}
 use mir.Facts.{to_z-of_z}
-use Rattle.layouts.specs.Zone.{day_in, is_date, value_in}
+use Rattle.std.specs.Prelude.{unwrap_or}
+use Rattle.records.specs.declared.Kind.TheVariants.{Closing}
+use Rattle.layouts.specs.Zone.{day_in, value_in}
 use Rattle.records.specs.Looks.{has_value}
 use Rattle.records.proofs.Looking.{value_amount, looked, not_looked}
 use borrow.Author.Rules.{sfits_of}
@@ -12,23 +14,19 @@ returns-then-r-ne-RECORD c = record { answer = not_looked _ c.if-r-ne-RECORD.tru
 pub zones_fit-requires : goal.zones_fit-requires
 zones_fit-requires c = (
   c.if-r-ne-RECORD.false,
-  c.kind-kind.ensures,
+  (c.unwrap_or-judged.ensures ∙ ap (λ k. unwrap_or k Closing) c.kind_of-kind.ensures),
   c.mmo-mmo.ensures,
-  c.has_value.ensures ∙ ap has_value c.read-amount.ensures.answer ∙ value_amount _,
+  c.is_some.ensures ∙ ap has_value c.read-amount.ensures.answer ∙ value_amount _,
   c.permitted-clean.ensures.answer,
 )
-
-pub dates_fit-requires : goal.dates_fit-requires
-dates_fit-requires c =
-    (c.if-r-ne-RECORD.false, c.kind-kind.ensures, c.is_date.ensures ∙ ap is_date c.read-date.ensures.answer)
 
 pub returns : goal.returns
 returns c =
     record {
       answer =
-          rw (to_z-of_z (sfits_of c.value_in.type_inv))
+          rw (to_z-of_z (sfits_of c.unwrap_or-2.type_inv))
           (looked c.args.r.now c.if-r-ne-RECORD.false
-          c.unknown.ensures c.kind-kind.ensures c.zones_fit.ensures c.dates_fit.ensures
-          (c.day_in.ensures ∙ ap day_in c.read-date.ensures.answer)
-          (c.value_in.ensures ∙ ap value_in c.read-amount.ensures.answer) c.mmo-mmo.ensures c.permitted-clean.ensures.answer);
+          c.kind_of-kind.ensures c.zones_fit.ensures c.dates_fit.ensures
+          (c.unwrap_or.ensures ∙ ap day_in c.read-date.ensures.answer)
+          (c.unwrap_or-2.ensures ∙ ap value_in c.read-amount.ensures.answer) c.mmo-mmo.ensures c.permitted-clean.ensures.answer);
     }

@@ -1,19 +1,16 @@
-use Rattle.std.proofs.Common.{◌≡◌, ◌-◌, refl, sym, ◌∙◌, arith}
-use Rattle.tables.proofs.Filled.{filled_is, fill_step, fill_over}
+use Rattle.std.proofs.Common.{arith}
+use Rattle.std.proofs.Math.Seq.{length-take-le}
+use Rattle.tables.proofs.Filled.{fill_on, fill_end}
 use Rattle.tables.proofs.fill.Goals as goal
 
-pub loop-i-init : goal.loop-i-init
-loop-i-init c =
-    let e : c.args.n - 0 ≡ c.args.n = omega arith in
-    rw e refl
-
-pub loop-i-preserved : goal.loop-i-preserved
-loop-i-preserved c =
-    let l = c.loop-i in
-    rw c.row_step-r.ensures (sym (fill_step c.args.part.now c.args.form l.p l.i c.args.n l.table c.loop-i-test.true) ∙ l.invariant)
+pub loop-row-preserved : goal.loop-row-preserved
+loop-row-preserved c =
+    let l = c.loop-row in
+    let k = length-take-le c.args.plan.rows c.args.table.now c.requires in
+    rw c.row_step-step.ensures (fill_on c.args.plan.part.now c.args.form c.args.plan.at c.args.plan.rows l.p l.row-index l.row-items (omega arith) (omega arith) l.invariant)
 
 pub returns : goal.returns
 returns c =
-    let l = c.loop-i in
-    sym (fill_over c.args.part.now c.args.form l.p l.i c.args.n l.table c.loop-i-test.false) ∙ l.invariant
-    ∙ filled_is c.args.part.now c.args.form c.args.at c.args.n c.args.table.now c.requires
+    let l = c.loop-row in
+    let k = length-take-le c.args.plan.rows c.args.table.now c.requires in
+    fill_end c.args.plan.part.now c.args.form c.args.plan.at c.args.plan.rows l.p l.row-index l.row-items c.args.table.now (omega arith) (omega arith) l.invariant

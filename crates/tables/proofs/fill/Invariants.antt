@@ -1,9 +1,6 @@
-use Rattle.std.proofs.Common.{◌≡◌, ◌-◌}
-use Rattle.tables.proofs.Filled.{filled}
+use Rattle.std.proofs.Common.{◌≡◌, ◌-◌, ◌++◌, take}
+use Rattle.tables.specs.Steps.{rows_from}
 use Rattle.tables.proofs.fill.Given as goal
 
-abbrev pub invariant-loop-i : goal.invariant-loop-i
-invariant-loop-i l = filled l.part l.form l.p l.i (l.n - l.i) l.table ≡ filled l.part l.form l.at 0 l.n l.initial.table
-
-abbrev pub decreases-loop-i : goal.decreases-loop-i
-decreases-loop-i l = l.n - l.i
+abbrev pub invariant-loop-row : goal.invariant-loop-row
+invariant-loop-row l = take l.row-index l.row-items ++ rows_from l.plan.part.now l.form l.p (l.plan.rows - l.row-index) ≡ rows_from l.plan.part.now l.form l.plan.at l.plan.rows

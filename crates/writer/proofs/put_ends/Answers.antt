@@ -2,22 +2,9 @@ use mathlib.Core.Path.{◌≡◌}
 use mir.Syntax.{w64}
 use mir.Val.{to_z, of_z}
 use mir.Facts.{to_z-of_z}
-use native.Mathlib.Omega.{arith}
-use Rattle.writer.proofs.Ends.{bounds, no_ends, ends_put_lem}
+use Rattle.writer.proofs.Ends.{ends_put_lem}
 use borrow.Author.Rules.{rules}
 use Rattle.writer.proofs.put_ends.Goals as goal
-
-pub returns-then-not-bytes-out : goal.returns-then-not-bytes-out
-returns-then-not-bytes-out c = no_ends c.args.bytes c.args.head c.args.out.now c.if-not-bytes-out.true
-
-pub overflow_sub-last : goal.overflow_sub-last
-overflow_sub-last c = let b = bounds c.args.bytes _ c.if-not-bytes-out.false in omega arith
-
-pub slice_bounds-put_opening-end : goal.slice_bounds-put_opening-end
-slice_bounds-put_opening-end c = let b = bounds c.args.bytes _ c.if-not-bytes-out.false in omega arith
-
-pub slice_bounds-put_closing-end : goal.slice_bounds-put_closing-end
-slice_bounds-put_closing-end c = let b = bounds c.args.bytes _ c.if-not-bytes-out.false in search rules
 
 pub returns : goal.returns
 returns c =

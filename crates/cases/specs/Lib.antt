@@ -1,0 +1,4 @@
+pub mod Arguments
+pub mod Cases
+pub mod Printed
+pub mod Answers
