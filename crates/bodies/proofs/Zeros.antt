@@ -3,26 +3,21 @@ use mathlib.Core.Path.{◌≡◌, refl, sym, ◌∙◌}
 use mathlib.Core.Bool.{Bool, true, false, not, ◌&&◌}
 use mathlib.Core.List.{List, [], ◌∷◌}
 use Prim.Native.Nat.{ℕ}
-use native.Mathlib.Omega.{arith}
 use lib.ListN.{length, take, set}
-use lib.Seq.{take_all}
 use borrow.Author.Tests.{not-true}
 use Rattle.zones.specs.Copy.{same_bytes}
 use Rattle.zones.proofs.Bools.{and_left, and_right}
 use Rattle.zones.proofs.Copies.{same_equal, equal_same}
 use Rattle.std.specs.List.{list_all}
-use Rattle.framing.proofs.Cuts.{Wide}
 use Rattle.records.specs.July.{record_size, has_debit_zero, no_debit_zero}
 use Rattle.records.proofs.Canon.{own_record, canon_set}
 use Rattle.bodies.specs.Bodies.{kept, same_record}
 
--- none stands in a row of whole records
-pub none_in : (ps : List (List ℕ)) → Wide record_size ps → list_all (λ p. not (has_debit_zero p)) ps ≡ no_debit_zero ps
+-- none stands in a row of records
+pub none_in : (ps : List (List ℕ)) → list_all (λ p. not (has_debit_zero (take record_size p))) ps ≡ no_debit_zero ps
 unfolding no_debit_zero
-none_in [] w = refl
-none_in (p ∷ ps) w =
-    let t : take record_size p ≡ p = take_all record_size p (omega (arith, w.0)) in
-    rw (none_in ps w.1, t)
+none_in [] = refl
+none_in (p ∷ ps) = rw (none_in ps)
 
 -- a record copied, and position 104 written where there is a debit zero
 module _ (r : List ℕ) (l : length r ≡ record_size) {x : List ℕ} {t : Bool} (e : x ≡ r) (h : t ≡ has_debit_zero r) where

@@ -11,8 +11,7 @@ use framing::{Form, PLAIN};
 use records::RECORD;
 
 // Whether a debit zero stands in 91-104 of a record that is no 05. Most records are told by their last digit alone.
-fn has_debit_zero(r: &[u8]) -> bool
-    requires { length r.now ≡ record_size }
+fn has_debit_zero(r: &[u8; RECORD]) -> bool
     ensures { result ≡ has_debit_zero r.now }
 {
     if r[103] != b'}' {
@@ -21,11 +20,12 @@ fn has_debit_zero(r: &[u8]) -> bool
     !zones::same(b"05", &r[0..2]) & zones::same(&r[90..104], b"0000000000000}")
 }
 
-// Whether no record of a body has a debit zero.
+// Whether no record of a body has a debit zero. Here and below each piece has a record's bytes: the `unwrap` is proved, and looks at nothing.
 fn no_debit_zero(body: &[u8]) -> bool
     ensures { result ≡ no_debit_zero (pieces_of record_size plain body.now) }
 {
-    body.chunks_exact(RECORD).all(|r| !has_debit_zero(r))
+    body.chunks_exact(RECORD)
+        .all(|r| !has_debit_zero(r.first_chunk().unwrap()))
 }
 
 // Whether a body is accepted alone, is exactly one statement, and has no debit zero.
@@ -39,8 +39,8 @@ pub fn is_single(body: &[u8]) -> bool
 }
 
 // A record as it is kept.
-fn put_record(dst: &mut [u8], r: &[u8])
-    requires { (length dst.old ≡ record_size) × (length r.now ≡ record_size) }
+fn put_record(dst: &mut [u8], r: &[u8; RECORD])
+    requires { length dst.old ≡ record_size }
     ensures { dst.new ≡ kept r.now }
 {
     zones::put(dst, r);
@@ -50,8 +50,7 @@ fn put_record(dst: &mut [u8], r: &[u8])
 }
 
 // Whether two records are kept alike. Records that differ are kept alike only where one has a debit zero.
-fn same_record(a: &[u8], b: &[u8]) -> bool
-    requires { (length a.now ≡ record_size) × (length b.now ≡ record_size) }
+fn same_record(a: &[u8; RECORD], b: &[u8; RECORD]) -> bool
     ensures { result ≡ same_record a.now b.now }
 {
     if zones::same(a, b) {
@@ -82,8 +81,7 @@ pub fn same_records(f: Form, a: &[u8], g: Form, b: &[u8]) -> bool
     if rows.len() != others.len() {
         return false;
     }
-    rows.zip(others)
-        .all(|(x, y)| same_record(&x[..RECORD], &y[..RECORD]))
+    rows.zip(others).all(|(x, y)| same_record(x.first_chunk().unwrap(), y.first_chunk().unwrap()))
 }
 
 // The last record of a part: the 07 of a statement.
@@ -114,6 +112,6 @@ pub fn put_body(dst: &mut [u8], form: Form, part: &[u8])
     // By index: the kit's proofs know no byte written through `chunks_exact_mut`.
     for (i, piece) in pieces.enumerate() {
         let a = RECORD * i;
-        put_record(&mut dst[a..a + RECORD], &piece[..RECORD]);
+        put_record(&mut dst[a..a + RECORD], piece.first_chunk().unwrap());
     }
 }

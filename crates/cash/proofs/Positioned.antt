@@ -27,7 +27,7 @@ use Rattle.journal.specs.Newest.{key_from}
 use Rattle.journal.specs.Holdings.{holding_of, body_in}
 use Rattle.journal.proofs.Promises.{promise}
 use Rattle.packing.specs.Packing.{Fits, refused, packed, answered_of}
-use Rattle.packing.specs.Answers.{Refuses}
+use Rattle.packing.specs.Answers.{RefusalNumber}
 use Rattle.packing.proofs.Packing.{a_back, b_back, kind_back, answered_fits, refused_fits}
 use Rattle.cash.specs.declared.Span.{Span}
 use Rattle.cash.specs.Value.{movements_of, first_balance, balance_at, value_at}
@@ -167,7 +167,7 @@ refusal_fits k =
 
 -- what the code packs of an answer
 module _ (j x : List ℕ) (first last : ℕ) (t : List ℤ) {m : ℕ} {t' : List ℤ} where
-  pub numbered : (r : Result ℕ Refusal) → MatchResult r (λ n. m ≡ answered_of n 0 0) (λ e. Refuses (reason_number e.reason) e.«record» m)
+  pub numbered : (r : Result ℕ Refusal) → MatchResult r (λ n. m ≡ answered_of n 0 0) (λ e. RefusalNumber e m)
       → Positions j x first last t r t' → PositionNumber j x first last t m t'
   numbered (Ok n) p g =
       let k : n ≤ most_days = rw (← g.answer) at (position_bounds j x first last (length t)) in

@@ -2,9 +2,7 @@
 #![tactic(auto)]
 
 ghost use Rattle.std.specs.Prelude.{◌≡◌, true, false, ◌∷◌, [], map, ◌-◌, ◌^◌, ◌<◌, length, get_or, pos, nat_abs, ◌+ℤ◌, SomeIff, unwrap_or};
-ghost use Rattle.packing.specs.Answers.{Refuses};
 ghost use Rattle.framing.specs.Files.{plain};
-ghost use Rattle.framing.specs.Refusals.{reason_number};
 ghost use Rattle.zones.specs.Choice.{pick};
 ghost use Rattle.dates.specs.Ordinals.{all_days, ordinal_of};
 ghost use Rattle.grammar.specs.Statements.{Statement};
@@ -47,6 +45,7 @@ struct Ledger<'a> {
 }
 
 // Amounts of days, from the day of an ordinal on.
+// Each method says too that the first day and the table are still the same, which no type can say of what is lent to change. As functions over a table with the day beside it they would not, and these two always travel together.
 #[derive(Drop)]
 struct Days<'a> {
     first: u32,
@@ -223,13 +222,6 @@ pub fn position(
     ledger.position(first, last, table)
 }
 
-// A refusal's number and record.
-fn refused(refusal: Refusal) -> u64
-    ensures { Refuses (reason_number refusal.reason) refusal.«record» result }
-{
-    packing::refused(refusal.reason.number(), refusal.record)
-}
-
 // The number of days filled, as one number.
 pub fn crownhazel_position(
     journal: &[u8],
@@ -241,12 +233,12 @@ pub fn crownhazel_position(
     ensures { PositionNumber journal.now key.now first last table.old result table.new }
 {
     position(journal, key, first, last, table).map_or_else(
-        refused,
+        packing::refusal,
         |days| packing::answered(days, 0, 0),
     )
 }
 
-// The new balance of an entry, without the sound test.
+// The new balance of an entry, without the sound test: 0 where there is no entry, by the C interface.
 #[tactic(auto, unfolding(crate::specs::Positions::balance_in))]
 pub fn crownhazel_balance(journal: &[u8], entry: u64) -> i64
     ensures { Balance journal.now entry result }

@@ -107,7 +107,7 @@ pub fn number(first: u8, second: u8) -> u16
     number_in(&table(), first, second)
 }
 
-// Bit 0.
+// Bit 0. Two functions, as the paper names two bits: of one expression each, one more that takes the bit would not be plainer.
 pub fn debit_ticked(n: u16) -> bool
     ensures { DebitTicked n result }
 {

@@ -8,7 +8,7 @@ use lib.IntN.{ℤ}
 use Rattle.std.specs.Prelude.{Result, Ok, Err, MatchResult}
 use Rattle.dates.specs.Ordinals.{last_day}
 use Rattle.packing.specs.Packing.{bit20, Fits, packed, answered_of}
-use Rattle.packing.specs.Answers.{Refuses}
+use Rattle.packing.specs.Answers.{RefusalNumber}
 use Rattle.packing.proofs.Packing.{a_back, b_back, c_back, kind_back, answered_fits, refused_fits}
 use Rattle.framing.specs.declared.Frame.{Frame}
 use Rattle.framing.specs.declared.refusals.Refusal.{Refusal}
@@ -77,10 +77,10 @@ day_fits k = search rules
 -- ---- what the code packs of an answer within its bounds, its value or its refusal, is the paper's answer packed
 
 abbrev pub Packs : {A : Type 0} → (A → ℕ) → Result A Refusal → ℕ → Type 0
-Packs f r n = MatchResult r (λ x. n ≡ f x) (λ e. Refuses (reason_number e.reason) e.«record» n)
+Packs f r n = MatchResult r (λ x. n ≡ f x) (λ e. RefusalNumber e n)
 
 -- a refusal has a number, so it is packed as one
-refused_packed : (e : Refusal) {n : ℕ} → InList e → Refuses (reason_number e.reason) e.«record» n → n ≡ packed (reason_number e.reason) e.«record» 0 0 0
+refused_packed : (e : Refusal) {n : ℕ} → InList e → RefusalNumber e n → n ≡ packed (reason_number e.reason) e.«record» 0 0 0
 refused_packed e k g = g.answer ∙ refused_fits (refusal_fits k) ∙ rw (reason_positive e.reason)
 
 pub check_packed : {n : ℕ} (r : Result Counts Refusal) → CheckBounds r → Packs (λ c. answered_of c.statements c.movements c.complements) r n → n ≡ packed_check (paper_check r)
@@ -91,7 +91,7 @@ pub opening_packed : {n : ℕ} (r : Result Unit Refusal) → OpeningBounds r →
 opening_packed (Ok u) k g = g ∙ answered_fits (records_fits (omega arith))
 opening_packed (Err e) k g = refused_packed e k g
 
-pub delivery_packed : {n : ℕ} (r : Result Delivery Rejection) → DeliveryBounds r → MatchResult r (λ d. n ≡ answered_of d.stored d.held 0) (λ e. Refuses (reason_number e.refusal.reason) e.refusal.«record» n)
+pub delivery_packed : {n : ℕ} (r : Result Delivery Rejection) → DeliveryBounds r → MatchResult r (λ d. n ≡ answered_of d.stored d.held 0) (λ e. RefusalNumber e.refusal n)
     → n ≡ packed_delivery (paper_delivery r)
 delivery_packed (Ok d) k g = g ∙ answered_fits (told_fits k)
 delivery_packed (Err e) k g = refused_packed e.refusal k g

@@ -2,8 +2,6 @@
 #![tactic(auto)]
 
 ghost use Rattle.std.specs.Prelude.{◌≡◌, Ok};
-ghost use Rattle.packing.specs.Answers.{Refuses};
-ghost use Rattle.framing.specs.Refusals.{reason_number};
 ghost use Rattle.readers.specs.Answers.{paper_place};
 ghost use Rattle.collector.specs.Packing.{packed_entry};
 ghost use Rattle.collector.specs.Bounds.{Lines};
@@ -16,19 +14,12 @@ use packing::BIT20;
 use readers::Place;
 use records::{MOST_IN_FILE, RECORD};
 
-// A refusal's number and record.
-fn refused(refusal: Refusal) -> u64
-    ensures { Refuses (reason_number refusal.reason) refusal.«record» result }
-{
-    packing::refused(refusal.reason.number(), refusal.record)
-}
-
 // The numbers of statements, movements and complements of a file.
 pub fn crownhazel_check(line_end: u64, file: &[u8]) -> u64
     ensures { CheckNumber line_end file.now result }
 {
     statements::check(Form { line_end }, file).map_or_else(
-        refused,
+        packing::refusal,
         |c| packing::answered(c.statements, c.movements, c.complements),
     )
 }
@@ -37,7 +28,7 @@ pub fn crownhazel_check(line_end: u64, file: &[u8]) -> u64
 pub fn crownhazel_open(journal: &mut [u8]) -> u64
     ensures { OpenNumber journal.old result journal.new }
 {
-    journal_layout::open(journal).map_or_else(refused, |()| packing::answered(0, 0, 0))
+    journal_layout::open(journal).map_or_else(packing::refusal, |()| packing::answered(0, 0, 0))
 }
 
 // How many statements of a file were stored, and how many were held.
@@ -45,7 +36,7 @@ pub fn crownhazel_deliver(journal: &mut [u8], line_end: u64, file: &[u8]) -> u64
     ensures { DeliverNumber journal.old line_end file.now result journal.new }
 {
     journal::deliver(journal, Form { line_end }, file).map_or_else(
-        |rejection| refused(rejection.refusal),
+        |rejection| packing::refusal(rejection.refusal),
         |delivery| packing::answered(delivery.stored, delivery.held, 0),
     )
 }
@@ -94,7 +85,7 @@ fn place_number(place: Place) -> u64
 pub fn crownhazel_entry(journal: &[u8], entry: u64) -> u64
     ensures { EntryNumber journal.now entry result }
 {
-    journal_layout::entry_place(journal, entry).map_or_else(refused, place_number)
+    journal_layout::entry_place(journal, entry).map_or_else(packing::refusal, place_number)
 }
 
 // The entries used, the body lines used, and the body lines in all.
@@ -102,7 +93,7 @@ pub fn crownhazel_used(journal: &[u8]) -> u64
     ensures { UsedNumber journal.now result }
 {
     journal_layout::used(journal).map_or_else(
-        refused,
+        packing::refusal,
         |usage| packing::answered(usage.entries, usage.used, usage.lines),
     )
 }
@@ -124,7 +115,7 @@ fn list_entry(journal: &[u8], entry: u64, row: &mut [u8]) -> Result<Place, Refus
 pub fn crownhazel_listed(journal: &[u8], entry: u64, row: &mut [u8]) -> u64
     ensures { ListedNumber journal.now entry row.old result row.new }
 {
-    list_entry(journal, entry, row).map_or_else(refused, place_number)
+    list_entry(journal, entry, row).map_or_else(packing::refusal, place_number)
 }
 
 // The number of records of a file of some length: the refusals 1 to 3, which its bytes have no say in.
@@ -137,14 +128,17 @@ pub fn crownhazel_length(line_end: u64, length: u64) -> u64
         MOST_IN_FILE,
         length as usize,
     )
-    .map_or_else(refused, |frame| packing::answered(frame.count as u64, 0, 0))
+    .map_or_else(
+        packing::refusal,
+        |frame| packing::answered(frame.count as u64, 0, 0),
+    )
 }
 
 // On what day a file begins: the earliest old balance date of its statements, one number over a and b.
 pub fn crownhazel_earliest(line_end: u64, file: &[u8]) -> u64
     ensures { EarliestNumber line_end file.now result }
 {
-    contents::earliest(Form { line_end }, file).map_or_else(refused, |day| {
+    contents::earliest(Form { line_end }, file).map_or_else(packing::refusal, |day| {
         packing::answered(day as u64 % BIT20, day as u64 / BIT20, 0)
     })
 }

@@ -32,13 +32,15 @@ use Rattle.readers.specs.declared.Step.{Step}
 use Rattle.records.specs.Looks.{judged_as}
 use Rattle.records.specs.declared.Kind.{Kind}
 use Rattle.records.specs.declared.Kind.TheVariants.{Opening, Movement as movement_kind, Complement, Closing}
+use Rattle.grammar.specs.Answer.{Answer, accepted, refused}
+use Rattle.records.proofs.Theorems.{counts, reads}
 use Rattle.statements.proofs.Modes.{stands, decoded}
-use Rattle.readers.specs.Places.{place_of}
+use Rattle.readers.specs.Places.{place_of, bytes_at}
 use Rattle.readers.specs.Steps.{found_step, step_of, next_of}
 use Rattle.readers.proofs.Movements.{before, rest, movement_there}
-use Rattle.readers.proofs.Placed.{part_cut, part_alone}
-use Rattle.contents.specs.Heads.{record_at_of, head_among, head_in, movements_in}
-use Rattle.contents.specs.Movements.{no_movement, outside, movement_among, text_among, complement_among, movement_in, complement_in, Single, steps_after, movement_place}
+use Rattle.readers.proofs.Placed.{part_there, part_alone}
+use Rattle.contents.specs.Heads.{record_at_of, head_among, head_in, movements_in, statements_in}
+use Rattle.contents.specs.Movements.{no_movement, outside, movement_among, text_among, complement_among, movement_in, complement_in, steps_after, movement_place}
 use Rattle.contents.specs.declared.Summary.{Summary}
 use Rattle.contents.proofs.Records.{HoldsAt, whole_inside, record_there}
 use Rattle.contents.proofs.Heading.{count_there}
@@ -268,20 +270,37 @@ module _ (f : Form) (b : List ℕ) (i : ℕ) where
     unfolding movement_place
     place_walked h q = ap Some q ∙ sym (rw (← e, ne_eqb i 0 o, le-ltb n i h))
 
-pub single_end : {f : Form} {b : List ℕ} → Single f b → line_end f ≤ 2
-single_end {f} s = ltb-false 2 (line_end f) s.reads.line
+-- a part where the check counts one statement is that statement's
+pub record Single (f : Form) (b : List ℕ) : Type 0 where
+  pub one : Statement
+  pub alone : Reads (coding_of f) f b (one ∷ [])
+
+pub single_of : (f : Form) (b : List ℕ) → statements_in (check_of (coding_of f) f b) ≡ 1 → Single f b
+single_of f b e = by (check_of (coding_of f) f b) refl e
+  where
+    of : (ss : List Statement) → Reads (coding_of f) f b ss → length ss ≡ 1 → Single f b
+    of [] r l = absurd (omega arith)
+    of (s ∷ []) r l = record { one = s; alone = r }
+    of (s ∷ t ∷ ss) r l = absurd (omega arith)
+
+    by : (a : Answer) → check_of (coding_of f) f b ≡ a → statements_in a ≡ 1 → Single f b
+    by (accepted c) p q = of (statements_of (coding_of f) f b) (reads f b p) (ap statements_in (sym (counts (reads f b p)) ∙ p) ∙ q)
+    by (refused n r) p q = absurd (omega arith)
+
+pub single_end : (f : Form) (b : List ℕ) → statements_in (check_of (coding_of f) f b) ≡ 1 → line_end f ≤ 2
+single_end f b e = ltb-false 2 (line_end f) (single_of f b e).alone.line
 
 -- the part that the code hands on, and the answers on it
 module _ (f : Form) (b : List ℕ) (k : ℕ) where
   module _ {p : Place} (e : Ok p ≡ place_of f b k) where
     abbrev cut : List ℕ
-    cut = take (p.first + p.len - p.first) (drop p.first b)
+    cut = bytes_at p b
 
     pub cut_reads : Reads (coding_of f) f cut (get_or (statements_of (coding_of f) f b) (k - 1) no_statement ∷ [])
-    cut_reads = rw (part_cut f b k e) (part_alone f b k e)
+    cut_reads = rw (part_there f b k e) (part_alone f b k e)
 
-    pub single_part : Single f cut
-    single_part = record { one = get_or (statements_of (coding_of f) f b) (k - 1) no_statement; reads = cut_reads }
+    pub single_part : statements_in (check_of (coding_of f) f cut) ≡ 1
+    single_part = ap statements_in (counts cut_reads)
 
     pub headed_part : {r : Summary} → ((s : Statement) → Reads (coding_of f) f cut (s ∷ []) → r ≡ head_among s) → Ok r ≡ head_in f b k
     unfolding head_in

@@ -60,3 +60,8 @@ head_at o c =
 abbrev pub movements_in : Answer → ℕ
 movements_in (accepted c) = c.movements
 movements_in (refused n r) = 0
+
+-- and how many statements
+abbrev pub statements_in : Answer → ℕ
+statements_in (accepted c) = c.statements
+statements_in (refused n r) = 0

@@ -1,5 +1,5 @@
 -- One movement and one complement of a statement, by number and by value.
-use Rattle.std.specs.Prelude.{◌≡◌, Option, Some, None, Result, Ok, Err, Bool, ◌||◌, List, [], ◌∷◌, ℕ, zero, suc, ◌+◌, ◌-◌, eqb, ltb, length, get_or, pos}
+use Rattle.std.specs.Prelude.{◌≡◌, Option, Some, None, Result, Ok, Err, Bool, ◌||◌, List, [], ℕ, zero, suc, ◌+◌, ◌-◌, eqb, ltb, length, get_or, pos}
 use Rattle.zones.specs.Choice.{pick}
 use Rattle.framing.specs.declared.Form.{Form}
 use Rattle.framing.specs.Files.{line_end}
@@ -7,7 +7,7 @@ use Rattle.framing.specs.Refusals.{refusal_by}
 use Rattle.framing.specs.declared.refusals.Reason.TheVariants.{NoSuchMovement}
 use Rattle.framing.specs.declared.refusals.Refusal.{Refusal}
 use Rattle.grammar.specs.Statements.{Movement, Statement}
-use Rattle.grammar.specs.Files.{Reads, statements_of, check_of}
+use Rattle.grammar.specs.Files.{statements_of, check_of}
 use Rattle.grammar.specs.Parts.{no_statement}
 use Rattle.records.specs.July.{record_size, coding_of}
 use Rattle.fields.specs.Rows.{row_of}
@@ -71,11 +71,6 @@ complement_by (Err e) s i j = Err e
 
 unfoldable pub complement_in : Form → List ℕ → (k i j : ℕ) → Result (List ℕ) Refusal
 complement_in f b k i j = complement_by (place_of f b k) (get_or (statements_of (coding_of f) f b) (k - 1) no_statement) i j
-
--- the bytes of one statement
-pub record Single (f : Form) (b : List ℕ) : Type 0 where
-  pub one : Statement
-  pub reads : Reads (coding_of f) f b (one ∷ [])
 
 -- the place after so many movements
 unfoldable pub steps_after : Form → List ℕ → (j at : ℕ) → ℕ

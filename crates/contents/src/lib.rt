@@ -1,12 +1,13 @@
 // What a statement of a file holds, by value: its head, one of its movements, one of their complements. On what day a file begins.
+// A form and a file stay two parameters: any form goes with any bytes, so a struct of the two would promise nothing.
 #![tactic(auto)]
 
 ghost use Rattle.std.specs.Prelude.{◌≡◌, List, ◌∷◌, []};
 ghost use Rattle.grammar.specs.Statements.{Statement};
-ghost use Rattle.grammar.specs.Files.{Reads};
+ghost use Rattle.grammar.specs.Files.{Reads, check_of};
 ghost use Rattle.records.specs.July.{coding_of};
-ghost use Rattle.contents.specs.Heads.{head_among, head_at};
-ghost use Rattle.contents.specs.Movements.{Single, steps_after, movement_place, Found, movement_among, complement_among};
+ghost use Rattle.contents.specs.Heads.{head_among, head_at, statements_in};
+ghost use Rattle.contents.specs.Movements.{steps_after, movement_place, Found, movement_among, complement_among};
 ghost use Rattle.contents.specs.Earliest.{earlier_of, earliest_of};
 ghost use Rattle.contents.specs.Answers.{RecordAt, MovementsIn, HeadOf, MovementOf, ComplementOf, EarliestIn};
 
@@ -73,29 +74,7 @@ pub fn movements_in(form: Form, part: &[u8]) -> u64
     }
 }
 
-// The head of a statement's part: its first record is the 01, its last the 07.
-fn head_in(form: Form, part: &[u8]) -> Summary
-    requires { Single form part.now }
-    ensures { (s : Statement) → Reads (coding_of form) form part.now (s ∷ []) → result ≡ head_among s }
-{
-    let width = RECORD + form.line_end as usize;
-    let last = part.len() - width;
-    Summary {
-        head: head_at(record_at(part, 0), record_at(part, last)),
-        movements: movements_in(form, part),
-    }
-}
-
-// The head of statement k. The whole file is judged first.
-pub fn head_of(form: Form, file: &[u8], k: u64) -> Result<Summary, Refusal>
-    ensures { HeadOf form file.now k result }
-{
-    let place = readers::statement_place(form, file, k)?;
-    let end = place.first + place.len;
-    Ok(head_in(form, &file[place.first..end]))
-}
-
-// The place after so many movements.
+// The place after so many movements. `readers::after_statements` takes another step: the two loops share a counter alone.
 fn after_movements(form: Form, part: &[u8], start: usize, skip: u64) -> usize
     ensures { result ≡ steps_after form part.now skip start }
 {
@@ -109,39 +88,86 @@ fn after_movements(form: Form, part: &[u8], start: usize, skip: u64) -> usize
     at
 }
 
-// The place of movement i in a statement's part.
-fn movement_place(form: Form, part: &[u8], i: u64) -> Option<usize>
-    requires { Single form part.now }
-    ensures { result ≡ movement_place form part.now i }
-{
-    if i == 0 {
-        return None;
-    }
-    if movements_in(form, part) < i {
-        return None;
-    }
-    let width = RECORD + form.line_end as usize;
-    Some(after_movements(form, part, width, i - 1))
+// A statement's part of a file: a file of that statement alone.
+#[derive(Clone, Copy)]
+struct Part<'a> {
+    form: Form,
+    bytes: &'a [u8],
+    ghost single: { statements_in (check_of (coding_of form) form bytes.now) ≡ 1 },
 }
 
-// Movement i in a statement's part: its place and its step.
-fn found(form: Form, part: &[u8], i: u64) -> Option<(usize, Step)>
-    requires { Single form part.now }
-    ensures { Found form part.now i result }
-{
-    let at = movement_place(form, part, i)?;
-    let step = readers::movement_step(part, form, at)?;
-    Some((at, step))
+impl Part<'_> {
+    // Its head: the first record is the 01, the last the 07.
+    fn head(&self) -> Summary
+        ensures { (s : Statement) → Reads (coding_of self.now.form) self.now.form self.now.bytes.now (s ∷ []) → result ≡ head_among s }
+    {
+        let width = RECORD + self.form.line_end as usize;
+        let last = self.bytes.len() - width;
+        Summary {
+            head: head_at(record_at(self.bytes, 0), record_at(self.bytes, last)),
+            movements: movements_in(self.form, self.bytes),
+        }
+    }
+
+    // The place of movement i.
+    fn movement_place(&self, i: u64) -> Option<usize>
+        ensures { result ≡ movement_place self.now.form self.now.bytes.now i }
+    {
+        if i == 0 {
+            return None;
+        }
+        if movements_in(self.form, self.bytes) < i {
+            return None;
+        }
+        let width = RECORD + self.form.line_end as usize;
+        Some(after_movements(self.form, self.bytes, width, i - 1))
+    }
+
+    // The place of movement i and its step.
+    fn found(&self, i: u64) -> Option<(usize, Step)>
+        ensures { Found self.now.form self.now.bytes.now i result }
+    {
+        let at = self.movement_place(i)?;
+        let step = readers::movement_step(self.bytes, self.form, at)?;
+        Some((at, step))
+    }
+
+    fn movement(&self, i: u64) -> Result<Movement, Refusal>
+        ensures { (s : Statement) → Reads (coding_of self.now.form) self.now.form self.now.bytes.now (s ∷ []) → result ≡ movement_among s.movements i }
+    {
+        let Some((at, step)) = self.found(i) else {
+            return Err(Reason::NoSuchMovement.at(0));
+        };
+        Ok(fields::row_at(record_at(self.bytes, at), step.complements))
+    }
+
+    fn complement(&self, i: u64, j: u64) -> Result<[u8; TEXT], Refusal>
+        ensures { (s : Statement) → Reads (coding_of self.now.form) self.now.form self.now.bytes.now (s ∷ []) → result ≡ complement_among s.movements i j }
+    {
+        let Some((at, step)) = self.found(i) else {
+            return Err(Reason::NoSuchMovement.at(0));
+        };
+        if (j == 0) | (step.complements < j) {
+            return Err(Reason::NoSuchMovement.at(0));
+        }
+        let width = RECORD + self.form.line_end as usize;
+        let r = record_at(self.bytes, at + j as usize * width);
+        let mut text = [0u8; TEXT];
+        zones::put(&mut text, &r[45..118]);
+        Ok(text)
+    }
 }
 
-fn movement_in(form: Form, part: &[u8], i: u64) -> Result<Movement, Refusal>
-    requires { Single form part.now }
-    ensures { (s : Statement) → Reads (coding_of form) form part.now (s ∷ []) → result ≡ movement_among s.movements i }
+// The head of statement k. The whole file is judged first.
+pub fn head_of(form: Form, file: &[u8], k: u64) -> Result<Summary, Refusal>
+    ensures { HeadOf form file.now k result }
 {
-    let Some((at, step)) = found(form, part, i) else {
-        return Err(Reason::NoSuchMovement.at(0));
+    let place = readers::statement_place(form, file, k)?;
+    let part = Part {
+        form,
+        bytes: place.part(file),
     };
-    Ok(fields::row_at(record_at(part, at), step.complements))
+    Ok(part.head())
 }
 
 // Movement i of statement k. The whole file is judged first.
@@ -149,25 +175,11 @@ pub fn movement_of(form: Form, file: &[u8], k: u64, i: u64) -> Result<Movement, 
     ensures { MovementOf form file.now k i result }
 {
     let place = readers::statement_place(form, file, k)?;
-    let end = place.first + place.len;
-    movement_in(form, &file[place.first..end], i)
-}
-
-fn complement_in(form: Form, part: &[u8], i: u64, j: u64) -> Result<[u8; TEXT], Refusal>
-    requires { Single form part.now }
-    ensures { (s : Statement) → Reads (coding_of form) form part.now (s ∷ []) → result ≡ complement_among s.movements i j }
-{
-    let Some((at, step)) = found(form, part, i) else {
-        return Err(Reason::NoSuchMovement.at(0));
+    let part = Part {
+        form,
+        bytes: place.part(file),
     };
-    if (j == 0) | (step.complements < j) {
-        return Err(Reason::NoSuchMovement.at(0));
-    }
-    let width = RECORD + form.line_end as usize;
-    let r = record_at(part, at + j as usize * width);
-    let mut text = [0u8; TEXT];
-    zones::put(&mut text, &r[45..118]);
-    Ok(text)
+    part.movement(i)
 }
 
 // Complement j of movement i of statement k, its bytes 46-118. The whole file is judged first.
@@ -175,8 +187,11 @@ pub fn complement_of(form: Form, file: &[u8], k: u64, i: u64, j: u64) -> Result<
     ensures { ComplementOf form file.now k i j result }
 {
     let place = readers::statement_place(form, file, k)?;
-    let end = place.first + place.len;
-    complement_in(form, &file[place.first..end], i, j)
+    let part = Part {
+        form,
+        bytes: place.part(file),
+    };
+    part.complement(i, j)
 }
 
 // The earlier of a day that is kept and another. 0 is none kept yet, as in the definition, whose 0 is the answer for no statement too.
@@ -203,7 +218,7 @@ fn earliest_day(form: Form, file: &[u8]) -> u32
     day
 }
 
-// On what day a file begins, 0 where it has no statement. The whole file is judged first.
+// On what day a file begins. The whole file is judged first. 0 and no `Option` where it has no statement: the theorems `begins_on` and `earliest_told` say so.
 pub fn earliest(form: Form, file: &[u8]) -> Result<u32, Refusal>
     ensures { EarliestIn form file.now result }
 {

@@ -43,7 +43,7 @@ fn zone<const N: usize>(s: &[u8]) -> [u8; N]
     zone
 }
 
-// The key in a record. A record of another length than 120 has none: zero bytes.
+// The key in a record. A record of another length than 120 has none: zero bytes and no `Option`, since `KeyAt` answers any bytes.
 pub fn key_at(r: &[u8]) -> Key
     ensures { KeyAt r.now result }
 {
@@ -66,7 +66,7 @@ fn entry_number(s: &[u8]) -> u32
     zones::number(s) as u32
 }
 
-// The row of a 04 with so many complements. A record of another length than 120 has none: every number and byte is 0.
+// The row of a 04 with so many complements. A record of another length than 120 has none: every number and byte is 0, and no `Option`, since `RowAt` answers any bytes.
 pub fn row_at(r: &[u8], complements: u64) -> Movement
     ensures { RowAt r.now complements result }
 {
@@ -89,7 +89,7 @@ pub fn row_at(r: &[u8], complements: u64) -> Movement
     }
 }
 
-// The value date and the amount of a 04. A record of another length than 120 has none: both are 0.
+// The value date and the amount of a 04. A record of another length than 120 has none: both are 0, and no `Option`, since `ValuedAt` answers any bytes.
 pub fn valued_at(r: &[u8]) -> Valued
     ensures { ValuedAt r.now result }
 {

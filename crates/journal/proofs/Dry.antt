@@ -194,10 +194,10 @@ module _ {j : List ℕ} {f : Form} {b : List ℕ} (given : Deliverable j f b) wh
         let y : spans_of w (H ++ P) (records_before d.i S) (drop d.i S) ≡ [] = ap (spans_of w (H ++ P) (records_before d.i S)) q in
         record {
           few = omega arith;
+          inside = d.inside;
           storable =
               record {
                 list = P;
-                inside = d.inside;
                 reads = d.reads;
                 room = d.roomy;
               };
@@ -229,7 +229,6 @@ module _ {j : List ℕ} {f : Form} {b : List ℕ} (given : Deliverable j f b) wh
             sound = given.sound;
             entry = h;
             few = omega arith;
-            inside = d.inside;
             planned = d.reads;
             room = ap (λ (l : ℕ). n - l) d.lines;
             within = record { rises = let r = g.rises in omega arith; within = g.within };

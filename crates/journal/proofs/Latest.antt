@@ -170,9 +170,9 @@ module _ {j : List ℕ} {f : Form} {b : List ℕ} {xs : List Bounds} {held : ℕ
           let e : n ≡ last_index (key_from x) 0 0 g.list = q ∙ last_part_is f x 0 0 (parts_of xs b) g.list g.reads in
           omega (arith, m, e, reading_length f (parts_of xs b) g.list g.reads, length_parts xs b)
 
-    module _ (i : ℕ) (q : i + 1 ≡ last_part 0 0 (parts_of xs b) x) where
+    module _ (i : ℕ) (q : i + 1 ≡ last_part 0 0 (parts_of xs b) x) (inside : Inside xs b) where
       pub part_inside : (i < length xs) × Within (get_or xs i nowhere) b
-      part_inside = let l : i < length xs = let m = part_there q in omega arith in (l, inside_at b xs i g.inside l)
+      part_inside = let l : i < length xs = let m = part_there q in omega arith in (l, inside_at b xs i inside l)
 
       pub found_file : Finds found j b (Ok (InFile (get_or xs i nowhere).first ((get_or xs i nowhere).end - (get_or xs i nowhere).first) (line_end f)))
       unfolding newest_among
@@ -227,7 +227,6 @@ module _ (j : List ℕ) (f : Form) (b : List ℕ) where
         list = w.list;
         sound = g.sound;
         entry = g.entry;
-        inside = w.inside;
         reads = w.reads;
         new = g.new;
         spans = g.spans;

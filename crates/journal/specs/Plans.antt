@@ -1,4 +1,6 @@
 -- What the code works on: the parts of a file that are to be stored, what they say of a statement, and how they are written into the journal.
+use mathlib.Core.HLevel.{×_prop, Unit-prop}
+use native.Mathlib.Bridge.{le_prop}
 use Rattle.std.specs.Prelude.{◌≡◌, Bool, true, false, ◌||◌, List, [], ◌∷◌, ◌++◌, ℕ, ◌+◌, ◌-◌, ◌*◌, ◌/◌, ◌<◌, ◌≤◌, length, take, drop, Result, Ok, Err}
 use Rattle.std.specs.declared.option.Option.{Option}
 use Rattle.std.specs.declared.option.Option.TheVariants.{Some, None}
@@ -22,7 +24,6 @@ use Rattle.journal.specs.declared.Rejection.{Rejection}
 use Rattle.journal.specs.declared.Delivery.{Delivery}
 use Rattle.journal.specs.declared.Verdict.{Verdict}
 use Rattle.journal.specs.declared.Bounds.{Bounds}
-use Rattle.journal.specs.declared.Parts.{Parts}
 use Rattle.journal.specs.declared.Plan.{Plan}
 use Rattle.journal.specs.declared.Found.{Found}
 use Rattle.journal.specs.Newest.{Lies}
@@ -36,10 +37,6 @@ abbrev pub parts_of : List Bounds → List ℕ → List (List ℕ)
 parts_of [] b = []
 parts_of (x ∷ xs) b = part_of x b ∷ parts_of xs b
 
--- as the code lends them
-abbrev pub parts_in : Parts → List (List ℕ)
-parts_in p = parts_of p.bounds.now p.file.now
-
 -- its places lie in the file, in order
 pub record Within (x : Bounds) (b : List ℕ) : Type 0 where
   pub rises : x.first ≤ x.end
@@ -47,6 +44,14 @@ pub record Within (x : Bounds) (b : List ℕ) : Type 0 where
 
 abbrev pub Inside : List Bounds → List ℕ → Type 0
 Inside xs b = All (λ x. Within x b) xs
+
+-- it has one proof at most, so a ghost field may hold it
+Within-prop : (x : Bounds) (b : List ℕ) → IsProp (Within x b)
+Within-prop x b p q = λ i. record { rises = le_prop p.rises q.rises i; within = le_prop p.within q.within i }
+
+pub Inside-prop : (xs : List Bounds) (b : List ℕ) → IsProp (Inside xs b)
+Inside-prop [] b = Unit-prop
+Inside-prop (x ∷ xs) b = ×_prop (Within-prop x b) (Inside-prop xs b)
 
 -- no part
 abbrev pub nowhere : Bounds
@@ -108,7 +113,6 @@ pub record Judgeable (j : List ℕ) (f : Form) (b : List ℕ) (xs : List Bounds)
   pub sound : sound_in j ≡ true
   pub entry : held ≡ length (held_of j)
   pub few : held + length xs ≤ most_entries
-  pub inside : Inside xs b
   pub planned : Reading f (parts_of xs b) list
   pub room : left ≡ lines_in j - lines_of (held_of j ++ list)
   pub within : Within x b
@@ -122,7 +126,6 @@ pub record Turned (j : List ℕ) (f : Form) (b : List ℕ) (xs : List Bounds) (h
 -- parts that can be written from an entry and a line on
 pub record Storable (j : List ℕ) (f : Form) (b : List ℕ) (xs : List Bounds) (entry line : ℕ) : Type 0 where
   pub list : List Statement
-  pub inside : Inside xs b
   pub reads : Reading f (parts_of xs b) list
   pub room : Roomy entry line (length j) list
 
@@ -138,6 +141,7 @@ delivery_of p = record { stored = p.count; held = p.held }
 -- A plan: the statements to store, with room for them. They are those that are new, in order of first arrival, behind those held; written into the journal they are the delivery's content.
 pub record Plans (j : List ℕ) (f : Form) (b : List ℕ) (p : Plan) : Type 0 where
   pub few : p.count ≤ length p.bounds
+  pub inside : Inside (take p.count p.bounds) b
   pub storable : Storable j f b (take p.count p.bounds) p.entry p.line
   pub outcome : outcome_of j f b ≡ delivered (held_of j ++ storable.list) p.count p.held
   pub content : written_all p.entry p.line storable.list j ≡ content_of j f b
@@ -156,7 +160,6 @@ pub record Searchable (j : List ℕ) (f : Form) (b : List ℕ) (xs : List Bounds
   pub list : List Statement
   pub sound : sound_in j ≡ true
   pub entry : held ≡ length (held_of j)
-  pub inside : Inside xs b
   pub reads : Reading f (parts_of xs b) list
   pub new : list ≡ arrivals (held_of j) (statements_of (coding_of f) f b)
   pub spans : spans_at xs ≡ spans_of (width_of record_size f) (held_of j) 0 (statements_of (coding_of f) f b)

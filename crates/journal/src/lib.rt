@@ -15,7 +15,7 @@ ghost use Rattle.entries.specs.Entries.{most_entries, line_at};
 ghost use Rattle.journal.specs.Delivery.{rejection, not_next, is_held, verdict_by};
 ghost use Rattle.journal_layout.specs.Test.{held_of};
 ghost use Rattle.journal.specs.Newest.{key_size, key_from, newest_among, newest_of, is_account, last_held_from, last_part};
-ghost use Rattle.journal.specs.Plans.{part_of, parts_in, Within, Inside, judged_in, judged_all, Reading, written, written_all, Deliverable, Storable, delivery_of, Planned, Judgeable, Turned, Searchable, number_of, Finds};
+ghost use Rattle.journal.specs.Plans.{part_of, parts_of, Within, Inside, Inside-prop, judged_in, judged_all, Reading, written, written_all, Deliverable, Storable, delivery_of, Planned, Judgeable, Turned, Searchable, number_of, Finds};
 ghost use Rattle.journal.specs.Answers.{Delivers, Foretells, NewestPlace, NewestPart, Holds, BodyOf, OfAccount};
 
 use entries::{CONTENTS, ENTRY, MOST_ENTRIES};
@@ -111,12 +111,13 @@ impl Bounds {
     }
 }
 
-// Some statements of a file.
+// Some statements of a file, each within it.
 #[derive(Clone, Copy)]
 struct Parts<'a> {
     form: Form,
     file: &'a [u8],
     bounds: &'a [Bounds],
+    ghost inside: { Inside bounds.now file.now } by { Inside-prop bounds.now file.now },
 }
 
 // The statements of a file that a delivery stores, into entries and lines from these on, and how many are held already. Memory is fixed, so the first `count` of an array are the statements.
@@ -143,8 +144,7 @@ impl Plan {
 
 // What the planned statements say of another one, behind what the held ones say. Beside `journal_layout::judged` a loop of its own: one over an iterator of bodies would need the iterator's items in its contract and a chain at each caller, for a loop of four lines.
 fn judged_planned(last: Judgement, parts: Parts, s: &[u8]) -> Judgement
-    requires { Inside parts.bounds.now parts.file.now }
-    ensures { result ≡ judged_in last parts.entry.form (parts_in parts.entry) s.now }
+    ensures { result ≡ judged_in last parts.entry.form (parts_of parts.entry.bounds.now parts.entry.file.now) s.now }
 {
     let mut after = last;
     for part in parts.bounds {
@@ -163,10 +163,9 @@ fn is_held(judgement: Judgement) -> bool
     matches!(judgement, Judgement::Held)
 }
 
-// What the held statements, so many, and the planned ones say of another one.
+// What the held statements, so many, and the planned ones say of another one. The count stands beside the journal, for the reason that `journal_layout::judged` has.
 fn judged_all(journal: &[u8], held: usize, parts: Parts, s: &[u8]) -> Judgement
-    requires { Inside parts.bounds.now parts.file.now }
-    ensures { result ≡ judged_all journal.now held parts.entry.form (parts_in parts.entry) s.now }
+    ensures { result ≡ judged_all journal.now held parts.entry.form (parts_of parts.entry.bounds.now parts.entry.file.now) s.now }
 {
     let last = journal_layout::judged(journal, held, parts.form, s);
     if is_held(last) {
@@ -306,7 +305,7 @@ fn store(journal: &mut [u8], e: usize, line: usize, form: Form, part: &[u8]) -> 
 // The planned parts of a file, into the entries and lines from these on.
 fn store_all(journal: &mut [u8], parts: Parts, entry: usize, line: usize)
     requires { Storable journal.old parts.form parts.file.now parts.bounds.now entry line }
-    ensures { (ss : List Statement) → Reading parts.entry.form (parts_in parts.entry) ss → journal.new ≡ written_all entry line ss journal.old }
+    ensures { (ss : List Statement) → Reading parts.entry.form (parts_of parts.entry.bounds.now parts.entry.file.now) ss → journal.new ≡ written_all entry line ss journal.old }
 {
     let mut k = line;
     for (p, part) in parts.bounds.iter().enumerate() {
@@ -348,8 +347,7 @@ pub fn foretold(journal: &[u8], form: Form, file: &[u8]) -> Result<Delivery, Rej
 }
 
 // Whether a record's account is the one that a key names. A key's fields stand elsewhere than a record's, so `records::same_key` cannot compare the two.
-fn is_account(key: &[u8], opening: &[u8]) -> bool
-    requires { length key.now ≡ key_size }
+fn is_account(key: &[u8; KEY], opening: &[u8]) -> bool
     ensures { result ≡ is_account key.now opening.now }
 {
     if opening.len() != RECORD {
@@ -361,9 +359,8 @@ fn is_account(key: &[u8], opening: &[u8]) -> bool
                 & ((opening[19] == key[13]) & zones::same(&opening[21..32], &key[14..25]))))
 }
 
-// The last entry of an account among so many, from 0.
-fn last_held(journal: &[u8], count: usize, key: &[u8]) -> Option<usize>
-    requires { length key.now ≡ key_size }
+// The last entry of an account among so many, from 0. A count beside the journal, for the reason that `judged_all` has.
+fn last_held(journal: &[u8], count: usize, key: &[u8; KEY]) -> Option<usize>
     ensures { number_of result ≡ last_held_from count 0 0 journal.now key.now }
 {
     let mut last = None;
@@ -376,9 +373,8 @@ fn last_held(journal: &[u8], count: usize, key: &[u8]) -> Option<usize>
 }
 
 // The last planned statement of an account, from 0. Beside `last_held` a loop of its own, for the reason that `judged_planned` has.
-fn last_planned(parts: Parts, key: &[u8]) -> Option<usize>
-    requires { (length key.now ≡ key_size) × Inside parts.bounds.now parts.file.now }
-    ensures { number_of result ≡ last_part 0 0 (parts_in parts.entry) key.now }
+fn last_planned(parts: Parts, key: &[u8; KEY]) -> Option<usize>
+    ensures { number_of result ≡ last_part 0 0 (parts_of parts.entry.bounds.now parts.entry.file.now) key.now }
 {
     let mut last = None;
     for (p, part) in parts.bounds.iter().enumerate() {
@@ -401,9 +397,9 @@ fn newest_planned(journal: &[u8], held: usize, parts: Parts, key: &[u8]) -> Resu
     requires { Searchable journal.now parts.form parts.file.now parts.bounds.now held }
     ensures { Finds (pick (eqb (length key.now) key_size) (newest_among parts.entry.form (key_from key.now) (held_of journal.now) (statements_of (coding_of parts.entry.form) parts.entry.form parts.entry.file.now)) (Err (refusal_by NoSuchEntry 0))) journal.now parts.entry.file.now result }
 {
-    if key.len() != KEY {
+    let Ok(key) = <&[u8; KEY]>::try_from(key) else {
         return Err(none_found());
-    }
+    };
     if let Some(p) = last_planned(parts, key) {
         let part = parts.bounds[p];
         return Ok(Found::InFile {
@@ -483,8 +479,8 @@ pub fn body(journal: &[u8], e: u64) -> &[u8]
 pub fn of_account(key: &[u8], body: &[u8]) -> bool
     ensures { OfAccount key.now body.now result }
 {
-    if key.len() != KEY {
+    let Ok(key) = <&[u8; KEY]>::try_from(key) else {
         return false;
-    }
+    };
     is_account(key, contents::record_at(body, 0))
 }

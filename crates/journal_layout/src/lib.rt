@@ -71,7 +71,7 @@ pub fn follows(judgement: Judgement, date: u32, balance: i64) -> bool
     }
 }
 
-// What the first entries of a journal, so many, say of a statement.
+// What the first entries of a journal, so many, say of a statement. The count stands beside the journal: its entries are the journal's, and the count is what of them is used.
 pub fn judged(journal: &[u8], count: usize, form: Form, s: &[u8]) -> Judgement
     ensures { Judged journal.now count form s.now result }
 {

@@ -121,6 +121,7 @@ impl Iterator for Movements<'_> {
     }
 }
 
+// The two numbers are printed by `Refused`, as in `reader_cases`. The word is this program's own.
 fn refusal_line(rt: &impl Print, refusal: Refusal) -> io::Result<()> {
     println!(rt; "REFUS {}", Refused(refusal))
 }

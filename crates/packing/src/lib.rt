@@ -3,7 +3,9 @@
 
 ghost use Rattle.std.specs.Prelude.{◌≡◌};
 ghost use Rattle.packing.specs.Packing.{Fits, pack as packOf};
-ghost use Rattle.packing.specs.Answers.{Answered, Refuses};
+ghost use Rattle.packing.specs.Answers.{Answered, Refuses, RefusalNumber};
+
+use framing::Refusal;
 
 // The weights of bits 20, 40 and 60. Below the first is one part of a number.
 pub const BIT20: u64 = 1048576;
@@ -39,4 +41,11 @@ pub fn refused(number: u64, record: u64) -> u64
     ensures { Refuses number «record» result }
 {
     pack(REFUSAL, record % BIT20, number % BIT20, 0)
+}
+
+// A refusal of the list: its reason's number and its record.
+pub fn refusal(refusal: Refusal) -> u64
+    ensures { RefusalNumber refusal result }
+{
+    refused(refusal.reason.number(), refusal.record)
 }

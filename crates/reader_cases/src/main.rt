@@ -57,6 +57,7 @@ impl fmt::Display for Posting {
     }
 }
 
+// The two numbers are printed by `Refused`, as in `listing`. The word is this program's own.
 fn refused(rt: &impl Print, refusal: Refusal) -> io::Result<()> {
     println!(rt; "refused {}", Refused(refusal))
 }

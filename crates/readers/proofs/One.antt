@@ -5,9 +5,12 @@ use Prim.Native.Nat.{ℕ}
 use Rattle.std.specs.Prelude.{Option, Result}
 use Rattle.framing.specs.declared.Form.{Form}
 use Rattle.framing.specs.declared.refusals.Refusal.{Refusal}
-use Rattle.readers.specs.Answers.{StatementEnd, StatementPlace, StatementPart, MovementStep}
+use Rattle.readers.specs.Answers.{PlacePart, StatementEnd, StatementPlace, StatementPart, MovementStep}
 use Rattle.readers.specs.declared.Step.{Step}
 use Rattle.readers.specs.declared.Place.{Place}
+
+pub one_place_part : {p : Place} {b r q : List ℕ} → PlacePart p b r → PlacePart p b q → r ≡ q
+one_place_part g h = g.answer ∙ sym h.answer
 
 pub one_end : {f : Form} {b : List ℕ} {at r q : ℕ} → StatementEnd f b at r → StatementEnd f b at q → r ≡ q
 one_end g h = g.answer ∙ sym h.answer

@@ -25,7 +25,7 @@ use Rattle.framing.specs.declared.refusals.Refusal.{Refusal}
 use Rattle.statements.specs.declared.Counts.{Counts as Counted}
 use Rattle.statements.specs.Answers.{checked_of}
 use Rattle.readers.specs.declared.Place.{Place}
-use Rattle.readers.specs.Places.{end_after, ends_after, place_by, place_of, statement_in}
+use Rattle.readers.specs.Places.{end_after, ends_after, place_by, place_of, statement_in, bytes_at}
 use Rattle.readers.proofs.Walk.{end_inside}
 use Rattle.readers.proofs.Rows.{before_next}
 use Rattle.readers.proofs.Cursor.{cursor}
@@ -176,6 +176,12 @@ module _ (f : Form) (b : List ℕ) (k : ℕ) {p : Place} (e : Ok p ≡ place_of 
       let z : p.first + p.len ≡ records_before (k - 1 + 1) ss * w =
       ap₂ ◌+◌ g.first g.len ∙ sym (rw (before_next (k - 1) ss l) (add-mul (records_before (k - 1) ss) (size_of (get_or ss (k - 1) no_statement)) w)) in
       rw z (before_inside r (k - 1 + 1) (omega arith))
+
+  -- at a place that is given stands the statement's part
+  pub part_there : bytes_at p b ≡ statement_in f b k
+  unfolding bytes_at
+  part_there =
+      rw (le-ltb (length b) (p.first + p.len) part_inside) (rw (add-sub_cancel_left p.first p.len) at part_cut)
 
   -- THE PART IS A FILE OF ONE STATEMENT: it reads as statement k, and nothing else
   pub part_alone : Reads (coding_of f) f (statement_in f b k) (get_or (statements_of (coding_of f) f b) (k - 1) no_statement ∷ [])

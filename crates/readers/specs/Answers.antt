@@ -1,7 +1,7 @@
 -- The contract of each public function: its one answer, and the answer as the paper gives it.
 use Rattle.std.specs.Prelude.{Option, Result, Ok, Err, ◌≡◌, List, ℕ}
 use Rattle.framing.specs.declared.Form.{Form}
-use Rattle.readers.specs.Places.{end_after, place_of, statement_in}
+use Rattle.readers.specs.Places.{end_after, place_of, statement_in, bytes_at}
 use Rattle.readers.specs.Steps.{step_of}
 use Rattle.readers.specs.declared.Step.{Step}
 use Rattle.readers.specs.declared.Place.{Place}
@@ -18,6 +18,10 @@ pub record PaperPlace : Type 0 where
 abbrev pub paper_place : Result Place Refusal → PaperPlace
 paper_place (Ok p) = record { number = 0; at = 0; first = p.first; len = p.len }
 paper_place (Err e) = record { number = reason_number e.reason; at = e.«record»; first = 0; len = 0 }
+
+-- Place::part
+pub record PlacePart (p : Place) (b r : List ℕ) : Type 0 where
+  pub answer : r ≡ bytes_at p b
 
 -- statement_end
 pub record StatementEnd (f : Form) (b : List ℕ) (at r : ℕ) : Type 0 where

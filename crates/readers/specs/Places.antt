@@ -1,5 +1,5 @@
 -- Where the statements of a file stand.
-use Rattle.std.specs.Prelude.{Result, Ok, Err, ◌||◌, List, [], ◌∷◌, ℕ, zero, suc, ◌+◌, ◌-◌, ◌*◌, eqb, ltb, length, drop, get_or}
+use Rattle.std.specs.Prelude.{Result, Ok, Err, ◌||◌, List, [], ◌∷◌, ℕ, zero, suc, ◌+◌, ◌-◌, ◌*◌, eqb, ltb, length, take, drop, get_or}
 use Rattle.zones.specs.Choice.{pick}
 use Rattle.framing.specs.declared.Form.{Form}
 use Rattle.framing.specs.Files.{unknown_end, width_of, pieces_of}
@@ -49,3 +49,7 @@ part_at (Err e) part = []
 
 unfoldable pub statement_in : Form → List ℕ → ℕ → List ℕ
 statement_in f b k = part_at (place_of f b k) (part_of (coding_of f) f b k)
+
+-- the bytes at a place, none where it does not lie in the file
+unfoldable pub bytes_at : Place → List ℕ → List ℕ
+bytes_at p b = pick (ltb (length b) (p.first + p.len)) [] (take p.len (drop p.first b))

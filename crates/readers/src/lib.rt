@@ -1,4 +1,5 @@
 // The statements of a file in their places, and the movements of a statement in theirs. A statement is a part of the file, never a copy.
+// A form and a file stay two parameters: any form goes with any bytes, so a struct of the two would promise nothing.
 #![tactic(auto)]
 
 ghost use Rattle.std.specs.Prelude.{◌≡◌, ◌∷◌, [], ◌≤◌, length, drop};
@@ -7,7 +8,7 @@ ghost use Rattle.layouts.specs.Zone.{part};
 ghost use Rattle.framing.proofs.Chunks.{whole_chunks};
 ghost use Rattle.readers.specs.Places.{end_in, ends_after};
 ghost use Rattle.readers.specs.Steps.{step_over};
-ghost use Rattle.readers.specs.Answers.{StatementEnd, StatementPlace, StatementPart, MovementStep};
+ghost use Rattle.readers.specs.Answers.{PlacePart, StatementEnd, StatementPlace, StatementPart, MovementStep};
 
 use framing::{Form, Reason, Refusal};
 use records::RECORD;
@@ -17,6 +18,23 @@ use records::RECORD;
 pub struct Place {
     pub first: usize,
     pub len: usize,
+}
+
+impl Place {
+    // The part of a file at this place. No bytes where the place does not lie in the file.
+    #[tactic(auto, unfolding(crate::specs::Places::bytes_at))]
+    pub fn part(self, file: &[u8]) -> &[u8]
+        ensures { PlacePart self file.now result.now }
+    {
+        if file.len() < self.first {
+            return &file[..0];
+        }
+        if file.len() - self.first < self.len {
+            return &file[..0];
+        }
+        let end = self.first + self.len;
+        &file[self.first..end]
+    }
 }
 
 // A movement: the number of its 05, and the place after them.
@@ -61,7 +79,7 @@ pub fn statement_end(form: Form, file: &[u8], at: usize) -> usize
     closing_end(file, RECORD + form.line_end as usize, at)
 }
 
-// The place after so many statements.
+// The place after so many statements. `contents::after_movements` takes another step: the two loops share a counter alone, and one over a closure would be no plainer.
 fn after_statements(form: Form, file: &[u8], skip: u64) -> usize
     ensures { result ≡ ends_after form file.now skip 0 }
 {
@@ -94,10 +112,7 @@ pub fn statement(form: Form, file: &[u8], k: u64) -> &[u8]
     ensures { StatementPart form file.now k result.now }
 {
     match statement_place(form, file, k) {
-        Ok(place) => {
-            let end = place.first + place.len;
-            &file[place.first..end]
-        }
+        Ok(place) => place.part(file),
         Err(_) => &file[..0],
     }
 }

@@ -1,14 +1,14 @@
 // One record of a file: its kind, whether it fits its layout, and the values that the rules look at. A record is looked at where it stands, never copied.
 #![tactic(auto)]
 
-ghost use Rattle.std.specs.Prelude.{◌≡◌, [], length};
+ghost use Rattle.std.specs.Prelude.{◌≡◌, []};
 ghost use Rattle.zones.specs.Class.{digit, blank, permitted, alnum, all};
 ghost use Rattle.std.proofs.Math.Bool.Bool.{true};
 ghost use Rattle.amounts.specs.Amounts.{is_amount};
 ghost use Rattle.dates.specs.Days.{date_of};
 ghost use Rattle.layouts.specs.Zone.{part, zoned, dated, run, is_date, blanks, text};
 ghost use Rattle.records.specs.Layouts.{front, layout01, layout04, layout05, layout_mmo};
-ghost use Rattle.records.specs.July.{record_size, is_mmo, layout_for};
+ghost use Rattle.records.specs.July.{is_mmo, layout_for};
 ghost use Rattle.records.specs.Looks.{kind_of, judged_as, either_of, code_of};
 ghost use Rattle.records.specs.Answers.{LookAt, SameKey, SameFront};
 
@@ -57,8 +57,7 @@ pub struct Look {
 }
 
 // None is 6: unknown record code.
-fn kind_of(r: &[u8]) -> Option<Kind>
-    requires { length r.now ≡ record_size }
+fn kind_of(r: &[u8; RECORD]) -> Option<Kind>
     ensures { result ≡ kind_of r.now }
 {
     if r[0] != b'0' {
@@ -73,16 +72,14 @@ fn kind_of(r: &[u8]) -> Option<Kind>
     }
 }
 
-fn mmo(r: &[u8]) -> bool
-    requires { length r.now ≡ record_size }
+fn mmo(r: &[u8; RECORD]) -> bool
     ensures { result ≡ is_mmo (part 46 118 r.now) }
 {
     zones::same(b"MMO", &r[45..48])
 }
 
 // Positions 3 to 40 of an 01 or 07, a line for each zone of the table, in its order. With the two zones that differ in a 04 as parameters the order would be lost.
-fn balance_front(r: &[u8]) -> bool
-    requires { length r.now ≡ record_size }
+fn balance_front(r: &[u8; RECORD]) -> bool
     ensures { result ≡ run zoned (front "01" blanks blanks []) r.now }
 {
     zones::digits(&r[2..7])
@@ -97,8 +94,7 @@ fn balance_front(r: &[u8]) -> bool
 }
 
 // Positions 3 to 40 of a 04 or 05.
-fn movement_front(r: &[u8]) -> bool
-    requires { length r.now ≡ record_size }
+fn movement_front(r: &[u8; RECORD]) -> bool
     ensures { result ≡ run zoned (front "04" (text permitted) (text alnum) []) r.now }
 {
     zones::digits(&r[2..7])
@@ -110,13 +106,6 @@ fn movement_front(r: &[u8]) -> bool
         & zones::alnums(&r[21..32])
         & zones::alnums(&r[32..34])
         & zones::digits(&r[34..40])
-}
-
-fn balance_zones(r: &[u8], amount: bool) -> bool
-    requires { (length r.now ≡ record_size) × (amount ≡ is_amount (part 91 104 r.now)) }
-    ensures { result ≡ run zoned layout01 r.now }
-{
-    balance_front(r) & zones::blanks(&r[40..90]) & amount & zones::blanks(&r[104..120])
 }
 
 fn digits_or_blanks(s: &[u8]) -> bool
@@ -136,74 +125,98 @@ fn text_permitted(s: &[u8], clean: bool) -> bool
     zones::permitted(s)
 }
 
-fn movement_zones(r: &[u8], amount: bool, clean: bool) -> bool
-    requires { (length r.now ≡ record_size) × (amount ≡ is_amount (part 91 104 r.now)) × (clean ≡ all permitted r.now) }
-    ensures { result ≡ run zoned layout04 r.now }
-{
-    movement_front(r)
-        & digits_or_blanks(&r[40..42])
-        & zones::digits(&r[42..48])
-        & text_permitted(&r[48..79], clean)
-        & zones::blanks(&r[79..81])
-        & zones::digits(&r[81..88])
-        & zones::flags(&r[88..89])
-        & zones::flags(&r[89..90])
-        & amount
-        & text_permitted(&r[104..120], clean)
+// A record and what was read of it once: the kind by which it is judged, whether it has the qualifier MMO, whether its date and its amount exist, and whether all its bytes are permitted.
+#[derive(Clone, Copy)]
+struct Seen<'a> {
+    r: &'a [u8; RECORD],
+    kind: Kind,
+    mmo: bool,
+    date: bool,
+    amount: bool,
+    clean: bool,
+    ghost judged: { kind ≡ judged_as r.now },
+    ghost qualified: { mmo ≡ is_mmo (part 46 118 r.now) },
+    ghost exists: { date ≡ is_date (date_of (part 35 40 r.now)) },
+    ghost valued: { amount ≡ is_amount (part 91 104 r.now) },
+    ghost told: { clean ≡ all permitted r.now },
 }
 
-fn plain_zones(r: &[u8], clean: bool) -> bool
-    requires { (length r.now ≡ record_size) × (clean ≡ all permitted r.now) }
-    ensures { result ≡ run zoned layout05 r.now }
-{
-    movement_front(r)
-        & zones::blanks(&r[40..45])
-        & zones::alnums(&r[45..48])
-        & text_permitted(&r[48..118], clean)
-        & zones::blanks(&r[118..120])
-}
-
-fn mmo_zones(r: &[u8]) -> bool
-    requires { length r.now ≡ record_size }
-    ensures { result ≡ run zoned layout_mmo r.now }
-{
-    movement_front(r)
-        & zones::blanks(&r[40..45])
-        & zones::letters(&r[48..51])
-        & zones::digits(&r[51..52])
-        & zones::digits(&r[52..66])
-        & zones::blanks(&r[66..118])
-        & zones::blanks(&r[118..120])
-}
-
-// 8: the zones of a record's own layout.
-fn zones_fit(r: &[u8], kind: Kind, mmo: bool, amount: bool, clean: bool) -> bool
-    requires { (length r.now ≡ record_size) × (kind ≡ judged_as r.now) × (mmo ≡ is_mmo (part 46 118 r.now)) × (amount ≡ is_amount (part 91 104 r.now)) × (clean ≡ all permitted r.now) }
-    ensures { result ≡ run zoned (layout_for r.now) r.now }
-{
-    match kind {
-        Kind::Movement => movement_zones(r, amount, clean),
-        Kind::Complement if mmo => mmo_zones(r),
-        Kind::Complement => plain_zones(r, clean),
-        Kind::Opening | Kind::Closing => balance_zones(r, amount),
+impl Seen<'_> {
+    fn balance_zones(&self) -> bool
+        ensures { result ≡ run zoned layout01 self.now.r.now }
+    {
+        let r = self.r;
+        balance_front(r) & zones::blanks(&r[40..90]) & self.amount & zones::blanks(&r[104..120])
     }
-}
 
-// 9: the date of every record, and the value date of a 04.
-fn dates_fit(r: &[u8], kind: Kind, exists: bool) -> bool
-    requires { (length r.now ≡ record_size) × (kind ≡ judged_as r.now) × (exists ≡ is_date (date_of (part 35 40 r.now))) }
-    ensures { result ≡ run dated (layout_for r.now) r.now }
-{
-    match kind {
-        Kind::Movement => exists & dates::read(&r[42..48]).is_some(),
-        _ => exists,
+    fn movement_zones(&self) -> bool
+        ensures { result ≡ run zoned layout04 self.now.r.now }
+    {
+        let r = self.r;
+        movement_front(r)
+            & digits_or_blanks(&r[40..42])
+            & zones::digits(&r[42..48])
+            & text_permitted(&r[48..79], self.clean)
+            & zones::blanks(&r[79..81])
+            & zones::digits(&r[81..88])
+            & zones::flags(&r[88..89])
+            & zones::flags(&r[89..90])
+            & self.amount
+            & text_permitted(&r[104..120], self.clean)
+    }
+
+    fn plain_zones(&self) -> bool
+        ensures { result ≡ run zoned layout05 self.now.r.now }
+    {
+        let r = self.r;
+        movement_front(r)
+            & zones::blanks(&r[40..45])
+            & zones::alnums(&r[45..48])
+            & text_permitted(&r[48..118], self.clean)
+            & zones::blanks(&r[118..120])
+    }
+
+    fn mmo_zones(&self) -> bool
+        ensures { result ≡ run zoned layout_mmo self.now.r.now }
+    {
+        let r = self.r;
+        movement_front(r)
+            & zones::blanks(&r[40..45])
+            & zones::letters(&r[48..51])
+            & zones::digits(&r[51..52])
+            & zones::digits(&r[52..66])
+            & zones::blanks(&r[66..118])
+            & zones::blanks(&r[118..120])
+    }
+
+    // 8: the zones of the record's own layout.
+    fn zones_fit(&self) -> bool
+        ensures { result ≡ run zoned (layout_for self.now.r.now) self.now.r.now }
+    {
+        match self.kind {
+            Kind::Movement => self.movement_zones(),
+            Kind::Complement if self.mmo => self.mmo_zones(),
+            Kind::Complement => self.plain_zones(),
+            Kind::Opening | Kind::Closing => self.balance_zones(),
+        }
+    }
+
+    // 9: the date of every record, and the value date of a 04.
+    fn dates_fit(&self) -> bool
+        ensures { result ≡ run dated (layout_for self.now.r.now) self.now.r.now }
+    {
+        let r = self.r;
+        match self.kind {
+            Kind::Movement => self.date & dates::read(&r[42..48]).is_some(),
+            _ => self.date,
+        }
     }
 }
 
 pub fn look_at(r: &[u8]) -> Look
     ensures { LookAt r.now result }
 {
-    if r.len() != RECORD {
+    let Ok(r) = <&[u8; RECORD]>::try_from(r) else {
         return Look {
             kind: None,
             misfit: true,
@@ -213,22 +226,27 @@ pub fn look_at(r: &[u8]) -> Look
             mmo: false,
             permitted: false,
         };
-    }
+    };
     let kind = kind_of(r);
-    // An unknown code has the layout of a 07.
-    let judged = kind.unwrap_or(Kind::Closing);
-    let mmo = mmo(r);
     let date = dates::read(&r[34..40]);
     let amount = amounts::read(&r[90..104]);
-    let clean = zones::permitted(r);
+    let seen = Seen {
+        r,
+        // An unknown code has the layout of a 07.
+        kind: kind.unwrap_or(Kind::Closing),
+        mmo: mmo(r),
+        date: date.is_some(),
+        amount: amount.is_some(),
+        clean: zones::permitted(r),
+    };
     Look {
         kind,
-        misfit: !zones_fit(r, judged, mmo, amount.is_some(), clean),
-        undated: !dates_fit(r, judged, date.is_some()),
+        misfit: !seen.zones_fit(),
+        undated: !seen.dates_fit(),
         day: date.unwrap_or(0),
         amount: amount.unwrap_or(0),
-        mmo,
-        permitted: clean,
+        mmo: seen.mmo,
+        permitted: seen.clean,
     }
 }
 

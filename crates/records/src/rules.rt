@@ -1,5 +1,5 @@
 // The rules that look at the state between two records: the records of the open statement so far, 0 where none is open, and its last movement.
-// They take a movement and a kind as numbers, and not as enums, since each has an answer for any number.
+// They take a movement and a kind as numbers, and not as enums: the contracts `Misplaced`, `SecondMmo`, `Misdated`, `Unsummed` answer for any number.
 ghost use Rattle.std.specs.Prelude.{◌≡◌};
 ghost use Rattle.records.specs.Tests.{movement_of};
 ghost use Rattle.records.specs.Answers.{Misplaced, SecondMmo, Misdated, SameBalance, Unsummed, TooLong};

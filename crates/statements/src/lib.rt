@@ -12,7 +12,7 @@ ghost use Rattle.records.specs.Looks.{kind_of, look_of};
 ghost use Rattle.statements.specs.Progress.{Small, opened_of, moved_of, added_of, closed_of, mode_of, flags_of, state_of, after_movement, next_of, begin, Inside, Fit, Sized};
 ghost use Rattle.statements.specs.Answers.{reason_in, checked_of, Check};
 
-use framing::{Form, Reason, Refusal};
+use framing::{Form, Frame, Reason, Refusal};
 use records::rules::LastMovement;
 use records::{Kind, Look, MOST_IN_FILE, RECORD, rules};
 
@@ -25,6 +25,7 @@ pub struct Counts {
 }
 
 // Running totals: counts, and the balance of the open statement. Each record takes them and hands them back.
+// That they are small stands at each method: as a ghost field it was tried, but a struct that has one takes no `..`, and each definition that builds totals would need a proof of it. As one function without methods it would stand once, but methods by value are the paper's form.
 #[derive(Clone, Copy)]
 struct Totals {
     statements: u64,
@@ -106,8 +107,8 @@ impl Progress {
     }
 
     // 10: the key of the open 01, or what a 05 repeats of the last 04, differs. Only the one that the rule looks at is compared.
-    fn differs(self, file: &[u8], r: &[u8], kind: Kind) -> bool
-        requires { Inside (length file.now) self × (length r.now ≡ record_size) × (kind_of r.now ≡ Some kind) }
+    fn differs(self, file: &[u8], r: &[u8; RECORD], kind: Kind) -> bool
+        requires { Inside (length file.now) self × (kind_of r.now ≡ Some kind) }
         ensures { result ≡ differsOf (mode_of (flags_of file.now self)) (decode_record r.now) }
     {
         if self.size == 0 {
@@ -148,7 +149,7 @@ impl Progress {
         if k.undated {
             return Some(Reason::NoSuchDate);
         }
-        if self.differs(file, &piece[0..RECORD], kind) {
+        if self.differs(file, piece.first_chunk().unwrap(), kind) {
             return Some(Reason::OtherKey);
         }
         if rules::second_mmo(self.size, movement, code, k.mmo) {
@@ -218,18 +219,18 @@ impl Progress {
     }
 }
 
-// The records of a file one after another: count pieces of width bytes.
-fn scan(form: Form, width: usize, count: usize, file: &[u8]) -> Result<Counts, Refusal>
-    requires { Sized form width count (length file.now) }
-    ensures { result ≡ checked_of (scanOf (files (coding_of form) form) 0 start (chunks width count file.now)) }
+// The records of a file one after another, as its frame cuts it.
+fn scan(form: Form, frame: Frame, file: &[u8]) -> Result<Counts, Refusal>
+    requires { Sized form frame.width frame.count (length file.now) }
+    ensures { result ≡ checked_of (scanOf (files (coding_of form) form) 0 start (chunks frame.width frame.count file.now)) }
 {
     let mut p = Progress::new();
-    for (i, piece) in file.chunks_exact(width).enumerate() {
+    for (i, piece) in file.chunks_exact(frame.width).enumerate() {
         let k = records::look_at(&piece[..RECORD]);
         if let Some(reason) = p.judge(form, file, piece, k) {
             return Err(reason.at(i as u64 + 1));
         }
-        p = p.taken(i * width, k);
+        p = p.taken(i * frame.width, k);
     }
     if p.size == 0 {
         Ok(Counts {
@@ -238,7 +239,7 @@ fn scan(form: Form, width: usize, count: usize, file: &[u8]) -> Result<Counts, R
             complements: p.totals.complements,
         })
     } else {
-        Err(Reason::OpenStatement.at(count as u64))
+        Err(Reason::OpenStatement.at(frame.count as u64))
     }
 }
 
@@ -247,5 +248,5 @@ pub fn check(form: Form, file: &[u8]) -> Result<Counts, Refusal>
     ensures { Check form file.now result }
 {
     let frame = framing::cut(form, RECORD as u16, MOST_IN_FILE, file)?;
-    scan(form, frame.width, frame.count, file)
+    scan(form, frame, file)
 }

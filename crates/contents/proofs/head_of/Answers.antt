@@ -1,22 +1,14 @@
 use mathlib.Core.Path.{sym, ◌∙◌}
 use Rattle.std.proofs.lemmas.Result.{err_from_is_err_and}
-use native.Mathlib.Omega.{arith}
-use Rattle.readers.proofs.Placed.{part_inside}
 use Rattle.contents.proofs.Heading.{not_headed}
 use Rattle.contents.proofs.Moving.{single_part, headed_part}
 use Rattle.contents.proofs.head_of.Goals as goal
 
-pub overflow_add-end : goal.overflow_add-end
-overflow_add-end c = omega (arith, part_inside c.args.form c.args.file.now c.args.k (sym c.in_ok-place.was ∙ c.statement_place.ensures.answer))
-
-pub slice_bounds-head_in-end : goal.slice_bounds-head_in-end
-slice_bounds-head_in-end c = omega (arith, part_inside c.args.form c.args.file.now c.args.k (sym c.in_ok-place.was ∙ c.statement_place.ensures.answer))
-
-pub head_in-requires : goal.head_in-requires
-head_in-requires c = single_part c.args.form c.args.file.now c.args.k (sym c.in_ok-place.was ∙ c.statement_place.ensures.answer)
+pub invariant_of-part : goal.invariant_of-part
+invariant_of-part c = record { single = rw c.part.ensures.answer (single_part c.args.form c.args.file.now c.args.k (sym c.in_ok-place.was ∙ c.statement_place.ensures.answer)) }
 
 pub returns : goal.returns
-returns c = record { answer = headed_part c.args.form c.args.file.now c.args.k (sym c.in_ok-place.was ∙ c.statement_place.ensures.answer) c.head_in.ensures }
+returns c = record { answer = headed_part c.args.form c.args.file.now c.args.k (sym c.in_ok-place.was ∙ c.statement_place.ensures.answer) (rw c.part.ensures.answer at c.head.ensures) }
 
 pub returns-in_err-place : goal.returns-in_err-place
 returns-in_err-place c =

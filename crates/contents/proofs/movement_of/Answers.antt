@@ -1,21 +1,13 @@
 use mathlib.Core.Path.{sym, ◌∙◌}
 use Rattle.std.proofs.lemmas.Result.{err_from_is_err_and}
-use native.Mathlib.Omega.{arith}
-use Rattle.readers.proofs.Placed.{part_inside}
 use Rattle.contents.proofs.Moving.{single_part, moved, not_moved}
 use Rattle.contents.proofs.movement_of.Goals as goal
 
-pub overflow_add-end : goal.overflow_add-end
-overflow_add-end c = omega (arith, part_inside c.args.form c.args.file.now c.args.k (sym c.in_ok-place.was ∙ c.statement_place.ensures.answer))
-
-pub slice_bounds-movement_in-end : goal.slice_bounds-movement_in-end
-slice_bounds-movement_in-end c = omega (arith, part_inside c.args.form c.args.file.now c.args.k (sym c.in_ok-place.was ∙ c.statement_place.ensures.answer))
-
-pub movement_in-requires : goal.movement_in-requires
-movement_in-requires c = single_part c.args.form c.args.file.now c.args.k (sym c.in_ok-place.was ∙ c.statement_place.ensures.answer)
+pub invariant_of-part : goal.invariant_of-part
+invariant_of-part c = record { single = rw c.part.ensures.answer (single_part c.args.form c.args.file.now c.args.k (sym c.in_ok-place.was ∙ c.statement_place.ensures.answer)) }
 
 pub returns : goal.returns
-returns c = record { answer = moved c.args.form c.args.file.now c.args.k (sym c.in_ok-place.was ∙ c.statement_place.ensures.answer) c.args.i c.movement_in.ensures }
+returns c = record { answer = moved c.args.form c.args.file.now c.args.k (sym c.in_ok-place.was ∙ c.statement_place.ensures.answer) c.args.i (rw c.part.ensures.answer at c.movement.ensures) }
 
 pub returns-in_err-place : goal.returns-in_err-place
 returns-in_err-place c =

@@ -5,21 +5,37 @@ use Rattle.journal.proofs.newest_planned.Goals as goal
 
 pub offset_bounds-parts-p : goal.offset_bounds-parts-p
 offset_bounds-parts-p c =
-    let l = part_inside c.requires c.args.key.now c.if-key-ne-KEY.false c.in-Some.p c.in-Some.ensures in
+    let k = c.in-Ok.ensures.1 in
+    let l = part_inside c.requires c.args.key.now k.long c.in-Some.p (rw k.same at c.in-Some.ensures) c.args.parts.inside in
     let i = l.0 in
     omega arith
 
 pub bounds-parts-p : goal.bounds-parts-p
-bounds-parts-p c = (part_inside c.requires c.args.key.now c.if-key-ne-KEY.false c.in-Some.p c.in-Some.ensures).0
+bounds-parts-p c =
+    let k = c.in-Ok.ensures.1 in
+    (part_inside c.requires c.args.key.now k.long c.in-Some.p (rw k.same at c.in-Some.ensures) c.args.parts.inside).0
+
+pub overflow_sub-result : goal.overflow_sub-result
+overflow_sub-result c =
+    let k = c.in-Ok.ensures.1 in
+    (part_inside c.requires c.args.key.now k.long c.in-Some.p (rw k.same at c.in-Some.ensures) c.args.parts.inside).1.rises
 
 pub returns-in-Some : goal.returns-in-Some
-returns-in-Some c = found_file c.requires c.args.key.now c.if-key-ne-KEY.false c.in-Some.p c.in-Some.ensures
+returns-in-Some c =
+    let k = c.in-Ok.ensures.1 in
+    found_file c.requires c.args.key.now k.long c.in-Some.p (rw k.same at c.in-Some.ensures) c.args.parts.inside
 
 pub returns-in_default-last_held : goal.returns-in_default-last_held
-returns-in_default-last_held c = rw c.none_found-in_default-last_held.ensures (found_nowhere c.requires c.args.key.now c.if-key-ne-KEY.false c.in_default.ensures c.in_default-last_held.ensures)
+returns-in_default-last_held c =
+    let k = c.in-Ok.ensures.1 in
+    rw c.none_found-in_default-last_held.ensures
+    (found_nowhere c.requires c.args.key.now k.long (rw k.same at c.in_default-last_planned.ensures) (rw k.same at c.in_default-last_held.ensures))
 
 pub returns-in_default-entry_at : goal.returns-in_default-entry_at
-returns-in_default-entry_at c = absurd (found_used c.requires c.args.key.now c.if-key-ne-KEY.false c.in_default.ensures c.in-Some-last_held.e c.in-Some-last_held.ensures c.in_default-entry_at.ensures.answer)
+returns-in_default-entry_at c =
+    let k = c.in-Ok.ensures.1 in
+    absurd
+    (found_used c.requires c.args.key.now k.long (rw k.same at c.in_default-last_planned.ensures) c.in-Some-last_held.e (rw k.same at c.in-Some-last_held.ensures) c.in_default-entry_at.ensures.answer)
 
 pub overflow_mul-result : goal.overflow_mul-result
 overflow_mul-result c = let s = entry_small c.in-Some-entry_at.ensures in omega (arith, s.first)
@@ -31,4 +47,6 @@ pub overflow_mul-result-2 : goal.overflow_mul-result-2
 overflow_mul-result-2 c = let s = entry_small c.in-Some-entry_at.ensures in omega (arith, s.records)
 
 pub returns : goal.returns
-returns c = found_journal c.requires c.args.key.now c.if-key-ne-KEY.false c.in_default.ensures c.in-Some-last_held.e c.in-Some-last_held.ensures (used_found c.in-Some-entry_at.ensures.answer)
+returns c =
+    let k = c.in-Ok.ensures.1 in
+    found_journal c.requires c.args.key.now k.long (rw k.same at c.in_default-last_planned.ensures) c.in-Some-last_held.e (rw k.same at c.in-Some-last_held.ensures) (used_found c.in-Some-entry_at.ensures.answer)

@@ -23,7 +23,7 @@ returns-in-Some-judge c =
 pub taken-p-requires : goal.taken-p-requires
 taken-p-requires c =
     let g = c.loop-i.invariant.0 in
-    let v = enough {j = most_in_file} {to = c.loop-i.i-iterator.count * c.args.width} (omega (arith, g.few, c.requires.few)) (omega arith) g.bound in
+    let v = enough {j = most_in_file} {to = c.loop-i.i-iterator.count * c.args.frame.width} (omega (arith, g.few, c.requires.few)) (omega arith) g.bound in
     (v.totals, v.size, look_small _ c.look_at-k.ensures.answer)
 
 pub loop-i-preserved : goal.loop-i-preserved

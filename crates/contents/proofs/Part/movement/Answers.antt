@@ -1,5 +1,5 @@
 use Rattle.contents.proofs.Moving.{no_movement_lem, row_there}
-use Rattle.contents.proofs.movement_in.Goals as goal
+use Rattle.contents.proofs.Part.movement.Goals as goal
 
 pub returns-in_default : goal.returns-in_default
 returns-in_default c s r = rw c.at.ensures.answer (no_movement_lem r c.args.i c.in_default.ensures)
