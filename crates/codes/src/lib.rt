@@ -155,6 +155,15 @@ pub enum MovementMark {
     Unticked = 3,
 }
 
+// Its number in the paper.
+impl From<MovementMark> for u8 {
+    ghost from_gives = { λ mark n. n ≡ mark_number mark };
+
+    fn from(mark: MovementMark) -> u8 {
+        mark as u8
+    }
+}
+
 // The mark for a code's number: withdrawn and absent come before the sign.
 #[tactic(auto, unfolding(crate::specs::Code::mark_for))]
 fn mark_for(n: u16, amount: i64) -> MovementMark

@@ -25,7 +25,7 @@ use Rattle.contents.specs.Earliest.{earliest_of, beginning_of}
 use Rattle.contents.specs.Heads.{no_head, head_in}
 use Rattle.contents.specs.Movements.{movement_in, complement_in}
 use Rattle.contents.specs.declared.Summary.{Summary}
-use Rattle.contents.specs.Answers.{PaperBeginning, paper_beginning, paper_head, paper_movement, paper_text, EarliestIn, HeadOf, MovementOf, ComplementOf}
+use Rattle.contents.specs.Answers.{PaperBeginning, PaperHead, PaperMovement, PaperText, paper_beginning, paper_head, paper_movement, paper_text, EarliestIn, HeadOf, MovementOf, ComplementOf}
 use Rattle.contents.proofs.Begun.{earliest_told}
 
 -- the refusals of a statement's place, which are those of a head, a movement and a complement
@@ -90,3 +90,34 @@ from_paper (Err e) = rw (reason_positive e.reason, reason_back e.reason)
 
 pub paper_apart : {r q : Result ℕ Refusal} → paper_beginning r ≡ paper_beginning q → r ≡ q
 paper_apart {r} {q} p = sym (from_paper r) ∙ ap beginning_from p ∙ from_paper q
+
+-- the same of a head, a movement and a complement
+abbrev head_from : PaperHead → Result Summary Refusal
+head_from p = pick (eqb p.number 0) (Ok (record { head = p.head; movements = p.movements })) (Err (refusal_of p.number p.at))
+
+head_back : (r : Result Summary Refusal) → head_from (paper_head r) ≡ r
+head_back (Ok s) = refl
+head_back (Err e) = rw (reason_positive e.reason, reason_back e.reason)
+
+pub heads_apart : {r q : Result Summary Refusal} → paper_head r ≡ paper_head q → r ≡ q
+heads_apart {r} {q} p = sym (head_back r) ∙ ap head_from p ∙ head_back q
+
+abbrev movement_from : PaperMovement → Result Movement Refusal
+movement_from p = pick (eqb p.number 0) (Ok p.movement) (Err (refusal_of p.number p.at))
+
+movement_back : (r : Result Movement Refusal) → movement_from (paper_movement r) ≡ r
+movement_back (Ok m) = refl
+movement_back (Err e) = rw (reason_positive e.reason, reason_back e.reason)
+
+pub movements_apart : {r q : Result Movement Refusal} → paper_movement r ≡ paper_movement q → r ≡ q
+movements_apart {r} {q} p = sym (movement_back r) ∙ ap movement_from p ∙ movement_back q
+
+abbrev text_from : PaperText → Result (List ℕ) Refusal
+text_from p = pick (eqb p.number 0) (Ok p.text) (Err (refusal_of p.number p.at))
+
+text_back : (r : Result (List ℕ) Refusal) → text_from (paper_text r) ≡ r
+text_back (Ok t) = refl
+text_back (Err e) = rw (reason_positive e.reason, reason_back e.reason)
+
+pub texts_apart : {r q : Result (List ℕ) Refusal} → paper_text r ≡ paper_text q → r ≡ q
+texts_apart {r} {q} p = sym (text_back r) ∙ ap text_from p ∙ text_back q

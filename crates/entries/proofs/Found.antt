@@ -1,5 +1,5 @@
 -- The body that an entry names.
-use mathlib.Core.Path.{◌≡◌, refl, sym}
+use mathlib.Core.Path.{◌≡◌, refl, sym, ap, ◌∙◌}
 use mathlib.Core.Bool.{Bool, true, false}
 use mathlib.Core.List.{List, []}
 use Prim.Native.Nat.{ℕ, ◌+◌, ◌-◌, ◌*◌, ◌^◌, ◌<◌, ◌≤◌}
@@ -13,14 +13,30 @@ use Rattle.zones.specs.Number.{value_of}
 use Rattle.zones.proofs.Decimal.{value_most}
 use Rattle.layouts.specs.Zone.{part}
 use Rattle.records.specs.July.{record_size}
-use Rattle.std.specs.Prelude.{Some, None}
+use Rattle.std.specs.Prelude.{Some, None, Result, Ok, Err}
 use Rattle.entries.specs.declared.Entry.{Entry}
-use Rattle.entries.specs.Answers.{EntryAt}
-use Rattle.entries.specs.Entries.{entry_size, most_entries, no_entry, line_at, is_used, Fields, fields_of, used_entry, entry_bytes, entry_in, body_at}
+use Rattle.entries.specs.Answers.{EntryAt, UsedAt}
+use Rattle.entries.specs.Entries.{entry_size, most_entries, no_entry, line_at, is_used, Fields, fields_of, entry_of, used_entry, entry_bytes, entry_in, body_at}
 
 -- what an entry says that the code finds
 abbrev pub fields_from : Entry → Fields
 fields_from x = record { used = true; first = x.first; records = x.records }
+
+-- and of an entry that it finds used or unused
+abbrev pub fields_either : Result Entry Entry → Fields
+fields_either (Ok x) = fields_from x
+fields_either (Err x) = record { used = false; first = x.first; records = x.records }
+
+entry_back : (y : Fields) → fields_either (entry_of y) ≡ y
+entry_back y = by y.used y.first y.records
+  where
+    by : (u : Bool) (f n : ℕ) → fields_either (entry_of (record { used = u; first = f; records = n })) ≡ record { used = u; first = f; records = n }
+    by true f n = refl
+    by false f n = refl
+
+-- the answer says all that the entry says, used or not
+pub entry_said : {j : List ℕ} {e : ℕ} {r : Result Entry Entry} → EntryAt j e r → fields_either r ≡ entry_in j e
+entry_said {j} {e} p = ap fields_either p.answer ∙ entry_back (entry_in j e)
 
 pub used_found : {y : Fields} {x : Entry} → Some x ≡ used_entry y → fields_from x ≡ y
 used_found {y} {x} p = by y.used y.first y.records p
@@ -56,13 +72,19 @@ fields_small x = by (eqb (length x) entry_size)
         }
     by false = record { first = omega arith; records = omega arith }
 
-pub entry_small : {j : List ℕ} {e : ℕ} {x : Entry} → EntryAt j e (Some x) → Small (fields_from x)
+in_small : (j : List ℕ) (e : ℕ) → Small (entry_in j e)
 unfolding entry_in
-entry_small {j} {e} p = rw (used_found p.answer) (by (leb most_entries e))
+in_small j e = by (leb most_entries e)
   where
     by : (t : Bool) → Small (pick t no_entry (fields_of (entry_bytes j e)))
     by true = record { first = omega arith; records = omega arith }
     by false = fields_small (entry_bytes j e)
+
+pub entry_small : {j : List ℕ} {e : ℕ} {r : Result Entry Entry} → EntryAt j e r → Small (fields_either r)
+entry_small {j} {e} p = rw (entry_said p) (in_small j e)
+
+pub used_small : {j : List ℕ} {e : ℕ} {x : Entry} → UsedAt j e (Some x) → Small (fields_from x)
+used_small {j} {e} p = rw (used_found p.answer) (in_small j e)
 
 -- at the code's returns
 module _ (j : List ℕ) (e : ℕ) where

@@ -21,9 +21,9 @@ use Rattle.layouts.specs.Zone.{part, day_in}
 use Rattle.records.specs.July.{record_size, date_in, canon_record}
 use Rattle.records.proofs.Canon.{front_kept}
 use Rattle.records.proofs.Lawful.{july_lawful}
-use Rattle.std.specs.Prelude.{Option, Some, None}
+use Rattle.std.specs.Prelude.{Result, Ok, Err}
 use Rattle.entries.specs.declared.Entry.{Entry}
-use Rattle.entries.specs.Entries.{entry_size, key_text, dates_text, place_text, entry_text, entry_put, is_used, fields_of, used_entry, most_entries, no_entry, entry_bytes, entry_there, entry_in}
+use Rattle.entries.specs.Entries.{entry_size, key_text, dates_text, place_text, entry_text, entry_put, is_used, fields_of, entry_of, most_entries, no_entry, entry_bytes, entry_there, entry_in}
 
 -- a zone of a whole record is as long as its positions say
 pub length_zone : (n a : ℕ) (r : List ℕ) → length r ≡ record_size → a + n ≤ record_size → length (take n (drop a r)) ≡ n
@@ -154,21 +154,21 @@ entry_kept first n o c x h k =
 
 -- at the code's returns
 module _ (x : List ℕ) (l : length x ≡ entry_size) where
-  pub blank_read : get_or x 43 0 ≡ 32 → None ≡ used_entry (fields_of x)
-  unfolding fields_of
-  blank_read h = sym (rw (eq-eqb (length x) entry_size l, h))
+  module _ {a b : ℕ} (p : a ≡ value_of (part 38 43 x)) (q : b ≡ value_of (part 44 47 x)) where
+    pub blank_read : get_or x 43 0 ≡ 32 → ◌≡◌ {A = Result Entry Entry} (Err (record { first = a; records = b })) (entry_of (fields_of x))
+    unfolding fields_of
+    blank_read h = rw (eq-eqb (length x) entry_size l, h, p, q)
 
-  pub fields_read : {a b : ℕ} → (get_or x 43 0 ≡ 32 → ⊥) → a ≡ value_of (part 38 43 x) → b ≡ value_of (part 44 47 x)
-      → ◌≡◌ {A = Option Entry} (Some (record { first = a; records = b })) (used_entry (fields_of x))
-  unfolding fields_of
-  fields_read h p q = rw (eq-eqb (length x) entry_size l, ne_eqb (get_or x 43 0) 32 h, p, q)
+    pub fields_read : (get_or x 43 0 ≡ 32 → ⊥) → ◌≡◌ {A = Result Entry Entry} (Ok (record { first = a; records = b })) (entry_of (fields_of x))
+    unfolding fields_of
+    fields_read h = rw (eq-eqb (length x) entry_size l, ne_eqb (get_or x 43 0) 32 h, p, q)
 
 module _ (j : List ℕ) (e : ℕ) where
-  pub none_there : entry_there j e ≡ false → None ≡ used_entry (entry_in j e)
+  pub none_there : entry_there j e ≡ false → ◌≡◌ {A = Result Entry Entry} (Err (record { first = 0; records = 0 })) (entry_of (entry_in j e))
   unfolding entry_in fields_of
   none_there = by (ltb e most_entries) (leb (entry_size * e + entry_size) (length j)) refl refl
     where
-      by : (t u : Bool) → ltb e most_entries ≡ t → leb (entry_size * e + entry_size) (length j) ≡ u → (t && u) ≡ false → None ≡ used_entry (entry_in j e)
+      by : (t u : Bool) → ltb e most_entries ≡ t → leb (entry_size * e + entry_size) (length j) ≡ u → (t && u) ≡ false → ◌≡◌ {A = Result Entry Entry} (Err (record { first = 0; records = 0 })) (entry_of (entry_in j e))
       by false u p q h = sym (rw (le-leb most_entries e (ltb-false e most_entries p)))
       by true false p q h =
           let s : length j < entry_size * e + entry_size = leb-false (entry_size * e + entry_size) (length j) q in
@@ -185,7 +185,7 @@ module _ (j : List ℕ) (e : ℕ) where
         let s = leb-true (entry_size * e + entry_size) (length j) (and_right (ltb e most_entries) _ h) in
         length-take-le entry_size (drop (entry_size * e) j) (omega (arith, length-drop (entry_size * e) j))
 
-    pub read_there : {r : Option Entry} → r ≡ used_entry (fields_of (entry_bytes j e)) → r ≡ used_entry (entry_in j e)
+    pub read_there : {r : Result Entry Entry} → r ≡ entry_of (fields_of (entry_bytes j e)) → r ≡ entry_of (entry_in j e)
     unfolding entry_in
     read_there p = p ∙ sym (rw (lt-leb most_entries e (ltb-true e most_entries (and_left (ltb e most_entries) _ h))))
 

@@ -7,7 +7,7 @@
 --
 --     1-5 bank | 6-10 branch | 11-13 currency | 14 decimals | 15-25 account | 26-31 old date | 32-37 new date
 --     | 38-43 first body line, from 0 | 44-47 number of records | 48-60 blank
-use Rattle.std.specs.Prelude.{Bool, false, not, ◌&&◌, List, [], ◌∷◌, ℕ, ◌+◌, ◌*◌, eqb, leb, ltb, length, take, drop, get_or, replicate, Option, Some, None}
+use Rattle.std.specs.Prelude.{Bool, false, not, ◌&&◌, List, [], ◌∷◌, ℕ, ◌+◌, ◌*◌, eqb, leb, ltb, length, take, drop, get_or, replicate, Option, Some, None, Result, Ok, Err}
 use Rattle.zones.specs.Choice.{pick}
 use Rattle.zones.specs.Number.{value_of, digits_of}
 use Rattle.zones.specs.Pieces.{flat}
@@ -68,7 +68,11 @@ fields_of x =
     (record { used = is_used x; first = value_of (part 38 43 x); records = value_of (part 44 47 x) })
     no_entry
 
--- an entry as the code gives it: none where it is unused
+-- an entry as the code gives it: an error where it is unused, with the same numbers
+abbrev pub entry_of : Fields → Result Entry Entry
+entry_of x = pick x.used (Ok (record { first = x.first; records = x.records })) (Err (record { first = x.first; records = x.records }))
+
+-- the same where only a used one counts
 abbrev pub used_entry : Fields → Option Entry
 used_entry x = pick x.used (Some (record { first = x.first; records = x.records })) None
 

@@ -3,8 +3,8 @@
 
 ghost use Rattle.std.specs.Prelude.{◌≡◌, true, false, length, MatchOption};
 ghost use Rattle.records.specs.July.{record_size};
-ghost use Rattle.entries.specs.Entries.{entry_size, row_size, key_text, dates_text, place_text, fields_of, used_entry, entry_bytes, entry_there, row_of};
-ghost use Rattle.entries.specs.Answers.{PutEntry, EntryAt, PutRow, BodyAt};
+ghost use Rattle.entries.specs.Entries.{entry_size, row_size, key_text, dates_text, place_text, fields_of, entry_of, entry_bytes, entry_there, row_of};
+ghost use Rattle.entries.specs.Answers.{PutEntry, EntryAt, UsedAt, PutRow, BodyAt};
 
 use records::RECORD;
 
@@ -20,7 +20,7 @@ pub const CONTENTS: usize = MOST_ENTRIES * ENTRY;
 // The bytes of a row: what an entry says of its statement.
 pub const ROW: usize = 41;
 
-// What a used entry says: its body's first line, and its number of records.
+// What an entry says: its body's first line, and its number of records.
 #[derive(Clone, Copy)]
 pub struct Entry {
     pub first: usize,
@@ -79,18 +79,19 @@ pub fn put_entry(dst: &mut [u8], first: usize, records: usize, opening: &[u8], c
 // The place, from 0, of the byte that is blank in an unused entry alone.
 const USED: usize = 43;
 
-// What an entry says, whatever its bytes. None where it is unused.
-fn entry_fields(x: &[u8]) -> Option<Entry>
+// What an entry says, whatever its bytes. An error where it is unused.
+fn entry_fields(x: &[u8]) -> Result<Entry, Entry>
     requires { length x.now ≡ entry_size }
-    ensures { result ≡ used_entry (fields_of x.now) }
+    ensures { result ≡ entry_of (fields_of x.now) }
 {
-    if x[USED] == b' ' {
-        return None;
-    }
-    Some(Entry {
+    let entry = Entry {
         first: zones::number(&x[37..43]) as usize,
         records: zones::number(&x[43..47]) as usize,
-    })
+    };
+    if x[USED] == b' ' {
+        return Err(entry);
+    }
+    Ok(entry)
 }
 
 // The bytes of entry e, from 0. None where there is none.
@@ -104,11 +105,24 @@ fn bytes_at(journal: &[u8], e: usize) -> Option<&[u8]>
     journal.get(a..a + ENTRY)
 }
 
-// Entry e, from 0. None where it is unused, or there is none.
-pub fn entry_at(journal: &[u8], e: usize) -> Option<Entry>
+// Entry e, from 0. An error where it is unused, with what its digits say all the same; zeros where there is none.
+pub fn entry_at(journal: &[u8], e: usize) -> Result<Entry, Entry>
     ensures { EntryAt journal.now e result }
 {
-    entry_fields(bytes_at(journal, e)?)
+    match bytes_at(journal, e) {
+        Some(x) => entry_fields(x),
+        None => Err(Entry {
+            first: 0,
+            records: 0,
+        }),
+    }
+}
+
+// Entry e, from 0, where it is used.
+pub fn used_at(journal: &[u8], e: usize) -> Option<Entry>
+    ensures { UsedAt journal.now e result }
+{
+    entry_at(journal, e).ok()
 }
 
 // Key, old date and new date of an entry, the dates as eight digits.
@@ -139,7 +153,7 @@ pub fn put_row(dst: &mut [u8], journal: &[u8], e: usize)
 pub fn body_at(journal: &[u8], e: usize) -> &[u8]
     ensures { BodyAt journal.now e result.now }
 {
-    let Some(x) = entry_at(journal, e) else {
+    let Some(x) = used_at(journal, e) else {
         return &journal[..0];
     };
     let a = CONTENTS + RECORD * x.first;

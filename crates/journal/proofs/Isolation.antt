@@ -11,7 +11,7 @@ use Rattle.std.specs.Prelude.{Result, Ok, Err}
 use Rattle.zones.specs.Choice.{pick}
 use Rattle.framing.specs.declared.Form.{Form}
 use Rattle.framing.specs.Files.{All}
-use Rattle.framing.specs.Refusals.{refusal_of, refusal_by}
+use Rattle.framing.specs.Refusals.{reason_number, reason_of, refusal_of, refusal_by}
 use Rattle.framing.specs.declared.refusals.Reason.TheVariants.{UnsoundJournal, FullContents, FullJournal}
 use Rattle.grammar.specs.declared.Key.{Key}
 use Rattle.grammar.specs.Record.{same_key}
@@ -23,6 +23,7 @@ use Rattle.grammar.specs.Parts.{size_of}
 use Rattle.grammar.proofs.Tests.{clash, same_key_true}
 use Rattle.records.specs.July.{july, coding_of}
 use Rattle.records.proofs.Theorems.{reads, counts, unique}
+use Rattle.statements.proofs.Listed.{check_listed}
 use Rattle.entries.specs.Entries.{most_entries}
 use Rattle.journal_layout.specs.Chains.{held_among, judgement_of, follows_by, of_account}
 use Rattle.journal_layout.specs.Layout.{most_lines, is_length, lines_of, journal_of, Journal, opened_of}
@@ -335,8 +336,8 @@ module _ (f : Form) (b : List ℕ) where
   pub refused_anybodys : {n at : ℕ} → check_of (coding_of f) f b ≡ Checks.refused n at → (P : Statement → Type 0) → EachStatement P f b
   refused_anybodys e P ss r = absurd (let c = counts r in let z : ◌≡◌ {A = ℕ} 0 1 = cc in omega arith)
 
-  pub refused_alike : {n at : ℕ} → check_of (coding_of f) f b ≡ Checks.refused n at → {j : List ℕ} {H : List Statement} → Journal j H → outcome_of j f b ≡ refused (rejection (refusal_of n at))
-  refused_alike e g = outcome_by_lem g f b ∙ rw e
+  pub refused_alike : {n at : ℕ} → check_of (coding_of f) f b ≡ Checks.refused n at → {j : List ℕ} {H : List Statement} → Journal j H → (outcome_of j f b ≡ refused (rejection (refusal_of n at))) × (reason_number (reason_of n) ≡ n)
+  refused_alike e g = (outcome_by_lem g f b ∙ rw e, rw e at (check_listed f b))
 
   -- and so may one without statements: it is answered with none stored and none held, and changes nothing
   pub none_anybodys : Reads (coding_of f) f b [] → (P : Statement → Type 0) → EachStatement P f b

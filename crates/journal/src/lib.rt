@@ -411,7 +411,7 @@ fn newest_planned(journal: &[u8], held: usize, parts: Parts, key: &[u8]) -> Resu
     let Some(e) = last_held(journal, held, key) else {
         return Err(none_found());
     };
-    let Some(x) = entries::entry_at(journal, e) else {
+    let Some(x) = entries::used_at(journal, e) else {
         return Err(none_found());
     };
     Ok(Found::InJournal {

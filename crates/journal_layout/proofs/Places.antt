@@ -19,8 +19,8 @@ use Rattle.framing.specs.declared.refusals.Refusal.{Refusal}
 use Rattle.readers.specs.declared.Place.{Place}
 use Rattle.std.specs.Prelude.{Some, None}
 use Rattle.entries.specs.declared.Entry.{Entry}
-use Rattle.entries.specs.Answers.{EntryAt}
-use Rattle.entries.proofs.Found.{Small, fields_from, entry_small}
+use Rattle.entries.specs.Answers.{UsedAt}
+use Rattle.entries.proofs.Found.{Small, fields_from, used_small}
 use Rattle.entries.specs.Entries.{Fields, used_entry, most_entries, table_size, line_at, entry_in}
 use Rattle.journal_layout.specs.Layout.{Journal, place_among}
 use Rattle.journal_layout.specs.Test.{numbered, sound_in, held_of, entry_place_of, entry_body_of}
@@ -38,7 +38,7 @@ module _ (j : List ℕ) (e : ℕ) where
       by false z = (eqb-false e 0 z, rw z at q)
 
   pub numbered_small : {x : Entry} → Some x ≡ numbered j e → Small (fields_from x)
-  numbered_small q = let p : EntryAt j (e - 1) (Some _) = record { answer = (numbered_there q).1 } in entry_small p
+  numbered_small q = let p : UsedAt j (e - 1) (Some _) = record { answer = (numbered_there q).1 } in used_small p
 
 -- a used entry is one of those held
 module _ {j : List ℕ} {ss : List Statement} (g : Journal j ss) where

@@ -134,7 +134,7 @@ fn walk(journal: &[u8]) -> bool
 {
     let mut k: usize = 0;
     for e in 0..MOST_ENTRIES {
-        let Some(x) = entries::entry_at(journal, e) else {
+        let Some(x) = entries::used_at(journal, e) else {
             return rest_blank(journal, e, k);
         };
         let n = x.records;
@@ -169,7 +169,7 @@ fn first_unused(journal: &[u8]) -> usize
     ensures { result ≡ unused_from most_entries 0 journal.now }
 {
     (0..MOST_ENTRIES)
-        .find(|e| entries::entry_at(journal, *e).is_none())
+        .find(|e| entries::used_at(journal, *e).is_none())
         .unwrap_or(MOST_ENTRIES)
 }
 
@@ -177,7 +177,7 @@ fn first_unused(journal: &[u8]) -> usize
 fn numbered(journal: &[u8], e: usize) -> Option<Entry>
     ensures { result ≡ numbered journal.now e }
 {
-    entries::entry_at(journal, e.checked_sub(1)?)
+    entries::used_at(journal, e.checked_sub(1)?)
 }
 
 // Where the next statement goes in a sound journal.

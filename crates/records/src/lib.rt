@@ -44,7 +44,7 @@ impl From<Kind> for u8 {
     }
 }
 
-// What the check needs to know of a record. A record of an unknown code has no kind. A date or an amount that does not exist is 0, and the record undated or misfit: the readers take both numbers from any record, as `LookAt` says.
+// What the check needs to know of a record. A record of an unknown code has no kind. A date or an amount that does not exist is 0, and a record that should have it undated or misfit: the readers take both numbers from any record, as `LookAt` says.
 #[derive(Clone, Copy)]
 pub struct Look {
     pub kind: Option<Kind>,

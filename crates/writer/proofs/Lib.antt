@@ -6,6 +6,7 @@ pub mod Carried
 pub mod Laid
 pub mod Written
 pub mod Theorems
+pub mod Paper
 pub mod Turns
 pub mod Groups
 pub mod Tallied
