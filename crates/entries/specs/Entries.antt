@@ -68,7 +68,7 @@ fields_of x =
     (record { used = is_used x; first = value_of (part 38 43 x); records = value_of (part 44 47 x) })
     no_entry
 
--- an entry as the code gives it: an error where it is unused, with the same numbers
+-- an entry as the code gives it: Ok where it is used, Err where it is not, with the same numbers
 abbrev pub entry_of : Fields → Result Entry Entry
 entry_of x = pick x.used (Ok (record { first = x.first; records = x.records })) (Err (record { first = x.first; records = x.records }))
 

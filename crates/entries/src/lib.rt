@@ -79,7 +79,7 @@ pub fn put_entry(dst: &mut [u8], first: usize, records: usize, opening: &[u8], c
 // The place, from 0, of the byte that is blank in an unused entry alone.
 const USED: usize = 43;
 
-// What an entry says, whatever its bytes. An error where it is unused.
+// What an entry says, whatever its bytes: `Ok` where it is used, `Err` where it is not.
 fn entry_fields(x: &[u8]) -> Result<Entry, Entry>
     requires { length x.now ≡ entry_size }
     ensures { result ≡ entry_of (fields_of x.now) }
@@ -105,7 +105,7 @@ fn bytes_at(journal: &[u8], e: usize) -> Option<&[u8]>
     journal.get(a..a + ENTRY)
 }
 
-// Entry e, from 0. An error where it is unused, with what its digits say all the same; zeros where there is none.
+// Entry e, from 0: `Ok` where it is used, `Err` where it is not, with what its digits say all the same; zeros where there is none. Nothing is refused.
 pub fn entry_at(journal: &[u8], e: usize) -> Result<Entry, Entry>
     ensures { EntryAt journal.now e result }
 {
